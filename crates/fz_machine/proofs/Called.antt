@@ -3,16 +3,16 @@ use Rattle.std.proofs.Common.{ℕ, Bool, true, false, cond, refl, sym, subst, in
 use Rattle.std.specs.FinMap.{remove}
 use Rattle.fz_model.specs.declared.kinds.LinkKind.{LinkKind}
 use Rattle.fz_model.specs.declared.kinds.LinkKind.TheVariants.{Short, Long}
-use Rattle.fz_finalizers.specs.Follows.{Follows, Unlink, Begin, Queue, QueueCleanup, queued_cleanup, queued_object}
+use Rattle.fz_finalizers.specs.Follows.{Follows, EndEphemeron, Unlink, Begin, Queue, QueueCleanup, queued_cleanup, queued_object}
 use Rattle.fz_finalizers.specs.Kinds.{is_late}
 use Rattle.fz_finalizers.specs.Promises.{IsReached, Past, Then}
 use Rattle.fz_finalizers.specs.States.{State, View}
 use Rattle.fz_machine.specs.declared.item.Item.{Item}
 use Rattle.fz_machine.specs.declared.phase.Phase.{Phase}
-use Rattle.fz_machine.specs.declared.phase.Phase.TheVariants.{ShortCleanups, ShortTargets, ShortWords, Objects, Children, Again, Picks, LateAgain, LatePicks, LongTargets, LongWords, ShortHolders, LongHolders, LongCleanups}
+use Rattle.fz_machine.specs.declared.phase.Phase.TheVariants.{Keys, KeysAgain, Holders, Values, ShortCleanups, ShortTargets, ShortWords, ShortKeys, ShortKeyWords, Objects, Children, Again, Picks, LateAgain, LatePicks, LongTargets, LongWords, LongKeys, LongKeyWords, ShortHolders, LongHolders, ShortKeyHolders, LongKeyHolders, LongCleanups}
 use Rattle.fz_machine.specs.Going.{going}
 use Rattle.fz_machine.specs.Heard.{IsCalled, PassesAreCalls}
-use Rattle.fz_machine.specs.Phases.{after}
+use Rattle.fz_machine.specs.Phases.{after, without_key}
 use Rattle.fz_machine.specs.Steps.{steps}
 use Rattle.fz_machine.proofs.Throughout.{goes_keep, steps_keep}
 
@@ -21,6 +21,9 @@ use Rattle.fz_machine.proofs.Throughout.{goes_keep, steps_keep}
 module _ (past : Past) (s : State) (c : IsCalled past s) where
   unlinked : (kind : LinkKind) (word : ℕ) (new : State) → Follows s (Unlink kind word) new → IsCalled past new
   unlinked kind word new is = record { later = c.later; reached = Then (Unlink kind word) c.reached is; taken = c.taken; finished = c.finished }
+
+  keyed : (word : ℕ) → IsCalled past (without_key s word)
+  keyed word = record { later = _; reached = Then (EndEphemeron word) c.reached refl; taken = c.taken; finished = c.finished }
 
   queued : (object : ℕ) → IsCalled past (queued_object s object)
   queued object = record { later = _; reached = Then (Queue object) c.reached refl; taken = c.taken; finished = c.finished }
@@ -33,9 +36,15 @@ module _ (past : Past) (s : State) (c : IsCalled past s) where
   cases false t u x y = y
 
   called : (phase : Phase) (item : Item) (answer : Bool) → IsCalled past (after phase item answer s)
+  called (Keys moment) item answer = c
+  called (KeysAgain moment) item answer = c
+  called (Holders moment) item answer = c
+  called (Values moment) item answer = c
   called ShortCleanups item answer = cases answer s (queued_cleanup s item.word) c (cleaned item.word)
   called ShortTargets item answer = c
   called ShortWords item answer = unlinked Short item.word _ refl
+  called ShortKeys item answer = c
+  called ShortKeyWords item answer = keyed item.word
   called Objects item answer = c
   called Children item answer = c
   called Again item answer = c
@@ -44,8 +53,12 @@ module _ (past : Past) (s : State) (c : IsCalled past s) where
   called LatePicks item answer = queued item.object
   called LongTargets item answer = c
   called LongWords item answer = unlinked Long item.word _ refl
+  called LongKeys item answer = c
+  called LongKeyWords item answer = keyed item.word
   called ShortHolders item answer = cases answer s (record s { short = remove s.short item.word }) c (unlinked Short item.word _ refl)
   called LongHolders item answer = cases answer s (record s { long = remove s.long item.word }) c (unlinked Long item.word _ refl)
+  called ShortKeyHolders item answer = cases answer s (without_key s item.word) c (keyed item.word)
+  called LongKeyHolders item answer = cases answer s (without_key s item.word) c (keyed item.word)
   called LongCleanups item answer = cases answer s (queued_cleanup s item.word) c (cleaned item.word)
 
 pub passes_are_calls : PassesAreCalls

@@ -35,7 +35,7 @@ module _ (b : State) where
       ap (λ (o : Option Attached). option_map_or (queued_attached (after_due due) e.0) o (after_due due)) (get-without_other b.cleanups due e.0 others ∙ here)
       ∙ (λ i. record b { queue = queue i; cleanups = sym (without-push b.cleanups due e) i })
 
-module _ (E : Type 0) (word_of : ℕ → Option ℕ) (when : LinkKind) (b : State) (objects : Map Object) (marked : ℕ → Bool) where
+module _ (E : Type 0) (word_of : ℕ → Option ℕ) (value : Map Object → ℕ → Option ℕ) (when : LinkKind) (b : State) (objects : Map Object) (marked : ℕ → Bool) where
   abbrev AreAll : List (ℕ × Attached) → Type 0
   AreAll = AreDue (λ (c : Attached). is_when when c.cleanup.when) b.cleanups
 
@@ -62,7 +62,7 @@ module _ (E : Type 0) (word_of : ℕ → Option ℕ) (when : LinkKind) (b : Stat
         ∙ one_due b (due_in marked p.past) e others.0 (All-filter (λ (x : ℕ × Attached). not (marked x.1.object)) (λ (y : ℕ × Attached). y.0 ≢ e.0) p.past others.1)
         ∙ ap (after_due b) (sym (due_more marked p.past e false off))
 
-    pub cleaning_on : (answer : Bool) → IsHonest E word_of (Some IsMarked) item.object h answer new → Cleaning (cond answer s (queued_cleanup s item.word)) left new
+    pub cleaning_on : (answer : Bool) → IsHonest E word_of value (Some IsMarked) item.object h answer new → Cleaning (cond answer s (queued_cleanup s item.word)) left new
     cleaning_on answer honest = by p.rest p.are p.left_are
       where
         by : (rest : List (ℕ × Attached)) → AreAll (p.past ++ rest) → item ∷ left ≡ map of_cleanup rest → Cleaning (cond answer s (queued_cleanup s item.word)) left new

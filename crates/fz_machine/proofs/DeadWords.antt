@@ -73,6 +73,28 @@ gone_all gone keep links now is all = same_map nat_cmp_total nat_cmp-IsAntisymme
     at a None here = (λ i. cond (gone a) None (here i)) ∙ none (gone a) (keep a) ∙ (λ i. cond (keep a) (sym here i) None)
     at a (Some t) here = ap (λ b. cond b None (get links a)) (all a t here) ∙ turned (keep a) (get links a)
 
+-- ---- a word without a link
+
+pub remove_none : (m : Map ℕ) (word : ℕ) → get m word ≡ None → remove m word ≡ m
+remove_none m word none = same_map nat_cmp_total nat_cmp-IsAntisymmetric _ _ (λ a. ⊎_elim (same a) (λ apart. get-remove_other m word a apart) (cases_eq a word))
+  where
+    same : (a : ℕ) → a ≡ word → get (remove m word) a ≡ get m a
+    same a is = ap (get (remove m word)) is ∙ get-remove_same m word ∙ sym none ∙ ap (get m) (sym is)
+
+pub retained_none : (m : Map ℕ) (keep : ℕ → Bool) (word : ℕ) → get m word ≡ None → get (retain_keys m keep) word ≡ None
+retained_none m keep word none = get-retain m keep word ∙ ap (λ o. cond (keep word) o None) none ∙ by (keep word)
+  where
+    by : (b : Bool) → cond {A = Option ℕ} b None None ≡ None
+    by true = refl
+    by false = refl
+
+pub retained_before : (m : Map ℕ) (keep : ℕ → Bool) (word target : ℕ) → get (retain_keys m keep) word ≡ Some target → get m word ≡ Some target
+retained_before m keep word target here = by (keep word) (sym (get-retain m keep word) ∙ here)
+  where
+    by : (b : Bool) → cond b (get m word) None ≡ Some target → get m word ≡ Some target
+    by true is = is
+    by false is = absurd (none-some target is)
+
 -- ---- words of dead links
 
 module _ (word_of : ℕ → Option ℕ) (objects : Map Object) (links : Map ℕ) (marked : ℕ → Bool) where
@@ -90,6 +112,10 @@ module _ (word_of : ℕ → Option ℕ) (objects : Map Object) (links : Map ℕ)
     pub only : (a : ℕ) → gone a ≡ true → IsDead a
     pub left_are : Each (λ i. IsDead i.word) left
     pub rest : (a : ℕ) → IsDead a → (gone a ≡ true) ⊎ OneOf (λ (i : Item). i.word ≡ a) left
+
+  -- it is one of the links
+  pub dead_link : (a : ℕ) → IsDead a → (t : ℕ) × (get links a ≡ Some t)
+  dead_link a on = let t = map_or_true (is_outside objects marked) (get links a) on in (t.0, t.1)
 
   abbrev pub IsLink : Item → Type 0
   IsLink i = get links i.word ≡ Some i.object

@@ -1,17 +1,19 @@
 -- Cleanups in order: a map has no fewer, and what is due of them stays in order.
-use Rattle.std.proofs.Common.{◌≡◌, ◌≢◌, ◌≤◌, ◌<◌, ◌+◌, ◌-◌, ◌++◌, ◌∷◌, ◌∙◌, [], ℕ, Bool, true, false, cond, List, length, length-append, refl, filter, get_or, Some, All, AllPairs, not, ◌&&◌, is_some, sym, ap, subst, ⊎_elim, arith, zero, suc, IsTrue, append-nil}
+use Rattle.std.proofs.Common.{◌≡◌, ◌≢◌, ◌≤◌, ◌<◌, ◌+◌, ◌++◌, ◌∷◌, ◌∙◌, [], ℕ, Bool, true, false, cond, List, length, length-append, refl, filter, get_or, Option, Some, None, All, AllPairs, not, ◌&&◌, is_some, sym, ap, subst, ⊎_elim, arith, zero, suc, IsTrue, append-nil}
 use Rattle.std.proofs.lemmas.Bool.{and_parts, true≢false}
-use Rattle.std.proofs.lemmas.List.Elements.{All-append, All-filter, All-head, filter-append, filter_passes}
+use Rattle.std.proofs.lemmas.List.Elements.{All-filter, All-head, filter-append, filter_passes}
 use Rattle.std.proofs.lemmas.List.Kept.{AllPairs-filter}
-use Rattle.std.proofs.lemmas.List.{get_or_append_left}
+use Rattle.std.proofs.lemmas.List.{get_or_append_left, length-map}
 use Rattle.std.proofs.lemmas.Option.{same_Some}
 use Rattle.std.proofs.Math.Seq.{get_or-append_seam}
-use Rattle.std.specs.FinMap.{get, len, remove}
+use Rattle.std.specs.FinMap.{entries, get, keys, len, len-entries, remove, retain_keys}
+use Rattle.std.specs.Option.{option_map_or}
 use Rattle.fz_model.specs.State.{Map}
 use Rattle.fz_model.specs.declared.kinds.LinkKind.{LinkKind}
 use Rattle.fz_model.specs.declared.kinds.LinkKind.TheVariants.{Short, Long}
-use Rattle.fz_model.proofs.Lists.{AllPairs-append, contains_at, place_of}
-use Rattle.fz_model.proofs.Maps.{get-remove_other}
+use Rattle.fz_model.proofs.Lists.{contains_at, place_of}
+use Rattle.fz_model.proofs.Counts.{count_not, len_retained}
+use Rattle.fz_model.proofs.Maps.{get-remove_other, get-retain}
 use Rattle.fz_finalizers.specs.declared.cleanups.Attached.{Attached}
 use Rattle.fz_finalizers.specs.Cleanups.{AreDue, ComesFirst, is_due, is_when}
 use Rattle.fz_finalizers.proofs.Cleaned.{without_back}
@@ -51,52 +53,65 @@ apart_in_order m cs each ordered i j d lt within = differs m (get_or cs i d) (ge
 
 -- ---- short and long ones
 
--- long cleanups of the map, in order
-pub record AreLong (m : Map Attached) (cs : List (ℕ × Attached)) : Type 0 where
-  pub each : All (λ (x : ℕ × Attached). (get m x.0 ≡ Some x.1) × IsTrue (is_when Long x.1.cleanup.when)) cs
+-- cleanups of the map that are of this moment, in order
+pub record AreOf (when : LinkKind) (m : Map Attached) (cs : List (ℕ × Attached)) : Type 0 where
+  pub each : All (λ (x : ℕ × Attached). (get m x.0 ≡ Some x.1) × IsTrue (is_when when x.1.cleanup.when)) cs
   pub ordered : AllPairs ComesFirst cs
 
--- the map has at most as many long cleanups
-abbrev pub HasLong : ℕ → Map Attached → Type 0
-HasLong most m = (cs : List (ℕ × Attached)) → AreLong m cs → length cs ≤ most
+-- the map has at most as many of them
+abbrev pub HasOf : LinkKind → ℕ → Map Attached → Type 0
+HasOf when most m = (cs : List (ℕ × Attached)) → AreOf when m cs → length cs ≤ most
 
-pub fewer_long : (most : ℕ) (m : Map Attached) (number : ℕ) → HasLong most m → HasLong most (remove m number)
-fewer_long most m number has cs are = has cs (record {
+pub fewer_of : (when : LinkKind) (most : ℕ) (m : Map Attached) (number : ℕ) → HasOf when most m → HasOf when most (remove m number)
+fewer_of when most m number has cs are = has cs (record {
   each = λ k d within. let of = are.each k d within in ((without_back m ((number, (get_or cs k d).1) ∷ []) (get_or cs k d).0 (get_or cs k d).1 of.0).0, of.1);
   ordered = are.ordered;
 })
+
+abbrev is_of : LinkKind → Map Attached → ℕ → Bool
+is_of when m number = option_map_or (λ (c : Attached). is_when when c.cleanup.when) (get m number) false
+
+-- cleanups of this moment are among those for which a test holds
+within_test : (when : LinkKind) (m : Map Attached) (test : ℕ → Bool) → ((x : ℕ × Attached) → get m x.0 ≡ Some x.1 → IsTrue (is_when when x.1.cleanup.when) → IsTrue (test x.0)) → HasOf when (len (retain_keys m test)) m
+within_test when m test holds cs are = few (retain_keys m test) cs there (apart_in_order m cs (λ k d within. (are.each k d within).0) are.ordered)
+  where
+    there : AreThere (retain_keys m test) cs
+    there k d within =
+        let of = are.each k d within in
+        let x : ℕ × Attached = get_or cs k d in
+        get-retain m test x.0 ∙ ap (λ b. cond b (get m x.0) None) (holds x of.0 of.1) ∙ of.0
 
 not_both : (when : LinkKind) → IsTrue (is_when Short when) → IsTrue (is_when Long when) → ⊥
 not_both Short short long = true≢false (sym long)
 not_both Long short long = true≢false (sym short)
 
-module _ (m : Map Attached) (short : List (ℕ × Attached)) (are : AreDue (λ (c : Attached). is_when Short c.cleanup.when) m short) where
-  both_few : (long : List (ℕ × Attached)) → AreLong m long → length short + length long ≤ len m
-  both_few long are_long =
-      let all = few m (short ++ long) (All-append (λ (x : ℕ × Attached). get m x.0 ≡ Some x.1) short long there_short there_long)
-      (AllPairs-append (λ (x y : ℕ × Attached). y.0 ≢ x.0) short long (apart_in_order m short there_short are.ordered) (apart_in_order m long there_long are_long.ordered) across) in
-      let count = length-append short long in
-      omega (arith, all, count)
-    where
-      there_short : AreThere m short
-      there_short k d within = (are.each k d within).0
+-- short and long ones together are no more than there are
+pub both_kinds : (m : Map Attached) → (short : ℕ) × (long : ℕ) × HasOf Short short m × HasOf Long long m × (short + long ≡ len m)
+both_kinds m = (len (retain_keys m test), len (retain_keys m (λ k. not (test k))), within_test Short m test short_on, within_test Long m (λ k. not (test k)) long_off, count)
+  where
+    test : ℕ → Bool
+    test = is_of Short m
 
-      there_long : AreThere m long
-      there_long k d within = (are_long.each k d within).0
+    test_is : (x : ℕ × Attached) → get m x.0 ≡ Some x.1 → test x.0 ≡ is_when Short x.1.cleanup.when
+    test_is x here = ap (λ (o : Option Attached). option_map_or (λ (c : Attached). is_when Short c.cleanup.when) o false) here
 
-      across : (i j : ℕ) (d : ℕ × Attached) → i < length short → j < length long → (get_or long j d).0 ≢ (get_or short i d).0
-      across i j d lt within same =
-          let x = get_or short i d in
-          let y = get_or long j d in
-          let one : y.1 ≡ x.1 = same_Some y.1 x.1 (sym (there_long j d within) ∙ ap (get m) same ∙ there_short i d lt) in
-          not_both x.1.cleanup.when (are.each i d lt).1 (subst (λ (c : Attached). IsTrue (is_when Long c.cleanup.when)) one (are_long.each j d within).1)
+    short_on : (x : ℕ × Attached) → get m x.0 ≡ Some x.1 → IsTrue (is_when Short x.1.cleanup.when) → IsTrue (test x.0)
+    short_on x here is = test_is x here ∙ is
 
-  -- the long ones are at most as many as the short ones leave
-  pub long_few : HasLong (len m - length short) m
-  long_few long are_long = let both = both_few long are_long in omega (arith, both)
+    long_off : (x : ℕ × Attached) → get m x.0 ≡ Some x.1 → IsTrue (is_when Long x.1.cleanup.when) → IsTrue (not (test x.0))
+    long_off x here is = by (test x.0) refl
+      where
+        by : (b : Bool) → test x.0 ≡ b → IsTrue (not b)
+        by false off = refl
+        by true on = absurd (not_both x.1.cleanup.when (sym (test_is x here) ∙ on) is)
 
-  pub short_few : length short ≤ len m
-  short_few = few m short (λ k d within. (are.each k d within).0) (apart_in_order m short (λ k d within. (are.each k d within).0) are.ordered)
+    count : len (retain_keys m test) + len (retain_keys m (λ k. not (test k))) ≡ len m
+    count =
+        let on = len_retained test m in
+        let off = len_retained (λ k. not (test k)) m in
+        let both = count_not test (keys m) in
+        let all = len-entries m ∙ sym (length-map (entries m) (λ (e : ℕ × Attached). e.0)) in
+        omega (arith, on, off, both, all)
 
 -- ---- what is due among them
 

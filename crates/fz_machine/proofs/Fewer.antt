@@ -1,14 +1,16 @@
 -- Each answer that is heard leaves fewer to come.
-use Rattle.std.proofs.Common.{◌≡◌, ◌≤◌, ◌+◌, ◌-◌, ◌*◌, ◌∷◌, ◌∙◌, [], ℕ, suc, Bool, true, false, cond, List, length, map, Option, Some, None, inl, inr, sym, ap, subst, is_some, length-append, arith}
+use Rattle.std.proofs.Common.{◌≡◌, ◌≤◌, ◌+◌, ◌-◌, ◌*◌, ◌∷◌, ◌∙◌, [], ℕ, zero, suc, Bool, true, false, not, cond, refl, List, length, map, Option, Some, None, inl, inr, sym, ap, subst, is_some, length-append, add-one, add-mul, mul-add, mul-suc, arith}
 use Rattle.std.proofs.lemmas.List.{length-map}
 use Rattle.std.proofs.lemmas.Option.{none-some}
 use Rattle.std.proofs.lemmas.List.Sorted.{length_permutation}
-use Rattle.std.specs.FinMap.{len}
+use Rattle.std.specs.FinMap.{len, remove}
 use Rattle.fz_model.specs.declared.answers.Registration.{Registration}
 use Rattle.fz_model.specs.State.{Map}
 use Rattle.fz_model.proofs.KeyedEntries.{len_made}
 use Rattle.fz_table.specs.Tabled.{Set, plain}
+use Rattle.fz_model.specs.declared.kinds.LinkKind.{LinkKind}
 use Rattle.fz_model.specs.declared.kinds.LinkKind.TheVariants.{Short, Long}
+use Rattle.fz_pass.specs.Holds.{Ephemerons}
 use Rattle.fz_finalizers.specs.declared.cleanups.Attached.{Attached}
 use Rattle.fz_finalizers.specs.Follows.{Event, Follows}
 use Rattle.fz_finalizers.specs.States.{State}
@@ -16,92 +18,234 @@ use Rattle.fz_machine.specs.declared.item.Item.{Item}
 use Rattle.fz_machine.specs.declared.pass.Next.{Next}
 use Rattle.fz_machine.specs.declared.pass.Next.TheVariants as told
 use Rattle.fz_machine.specs.declared.phase.Phase.{Phase}
-use Rattle.fz_machine.specs.declared.phase.Phase.TheVariants.{ShortCleanups, ShortTargets, ShortWords, Objects, Children, Again, Picks, LateAgain, LatePicks, LongTargets, LongWords, ShortHolders, LongHolders, LongCleanups}
+use Rattle.fz_machine.specs.declared.phase.Moment.{Moment}
+use Rattle.fz_machine.specs.declared.phase.Moment.TheVariants.{First, Led, Picked, Last}
+use Rattle.fz_machine.specs.declared.phase.Phase.TheVariants.{Keys, KeysAgain, Holders, Values, ShortCleanups, ShortTargets, ShortWords, ShortKeys, ShortKeyWords, Objects, Children, Again, Picks, LateAgain, LatePicks, LongTargets, LongWords, LongKeys, LongKeyWords, ShortHolders, LongHolders, ShortKeyHolders, LongKeyHolders, LongCleanups}
 use Rattle.fz_machine.specs.Going.{going}
 use Rattle.fz_machine.specs.Heard.{Begun, Goes, Hears, Meanwhile, PassesEnd, covered}
-use Rattle.fz_machine.specs.Items.{AreCleanups, AreEntriesOf, AreLinks, AreObjects, of_cleanup, of_link, of_stored}
+use Rattle.fz_machine.specs.Items.{AreCleanups, AreEntriesOf, AreEphemerons, AreLinks, AreObjects, of_cleanup, of_link, of_stored}
 use Rattle.fz_machine.specs.Machines.{IsWork, Machine, Tells}
-use Rattle.fz_machine.specs.Phases.{Lists, after, asks, keeps, next_phase}
+use Rattle.fz_machine.specs.Phases.{Lists, after, aside_in, asks, behind, given, keeps, next_phase, off_in, puts_off}
 use Rattle.fz_machine.specs.Regions.{items_in}
 use Rattle.fz_machine.specs.Steps.{Asks, Ends, Going, GoesOn, Turns, skip, skipped, steps}
 use Rattle.fz_machine.proofs.Phasing.{kept_on}
-use Rattle.fz_machine.proofs.Due.{HasLong, fewer_long, long_few, short_few}
+use Rattle.fz_machine.proofs.Due.{HasOf, both_kinds, fewer_of}
 use Rattle.fz_machine.proofs.Remaining.{items_same}
 use Rattle.fz_machine.proofs.Within.{IsWithin, still}
 use Rattle.fz_machine.proofs.Working.{work_apart}
 
-abbrev at : State → List Item → List Item → Going
-at s kept left = record { finalizers = s; kept = kept; left = left }
+abbrev at : State → List Item → List Item → List Item → List Item → Going
+at s kept left aside off = record { finalizers = s; kept = kept; left = left; aside = aside; off = off }
 
-module _ (r s g l c : ℕ) where
-  -- how often a phase and those behind it may go over an item, by how many are kept and left
-  abbrev to_come : Option Phase → ℕ → ℕ → ℕ
-  to_come None kept left = 0
-  to_come (Some ShortCleanups) kept left = left + (6 * r + 3 * (s + g) + l)
-  to_come (Some ShortTargets) kept left = 2 * left + kept + (6 * r + 3 * g + s + l)
-  to_come (Some ShortWords) kept left = left + (6 * r + 3 * g + s + l)
-  to_come (Some Objects) kept left = 6 * left + 5 * kept + (3 * g + s + l)
-  to_come (Some Children) kept left = 5 * left + 4 * kept + (3 * g + s + l)
-  to_come (Some Again) kept left = 4 * left + 3 * kept + (3 * g + s + l)
-  to_come (Some Picks) kept left = 3 * left + 2 * kept + (3 * g + s + l)
-  to_come (Some LateAgain) kept left = 2 * left + kept + (3 * g + s + l)
-  to_come (Some LatePicks) kept left = left + (3 * g + s + l)
-  to_come (Some LongTargets) kept left = 2 * left + kept + (g + s + l)
-  to_come (Some LongWords) kept left = left + (g + s + l)
-  to_come (Some ShortHolders) kept left = left + (g + l)
-  to_come (Some LongHolders) kept left = left + l
-  to_come (Some LongCleanups) kept left = left
+-- ---- rounds over ephemerons
+
+-- how often rounds may go over so many: three times over each in the first round, and over at least one fewer in the next
+abbrev most : ℕ → ℕ
+most zero = 0
+most (suc n) = 3 * suc n + most n
+
+most_next : (n : ℕ) → most n ≡ 3 * n + most (n - 1)
+most_next zero = refl
+most_next (suc n) = let same : suc n - 1 ≡ n = omega arith in ap (λ k. 3 * suc n + most k) (sym same)
+
+most_more : (n k : ℕ) → most n ≤ most (k + n)
+most_more n zero = let is : 0 + n ≡ n = omega arith in let same = ap most is in omega (arith, same)
+most_more n (suc k) =
+    let few = most_more n k in
+    let is : suc k + n ≡ suc (k + n) = omega arith in
+    let same : most (suc k + n) ≡ 3 * suc (k + n) + most (k + n) = ap most is in
+    omega (arith, few, same)
+
+most_le : (n m : ℕ) → n ≤ m → most n ≤ most m
+most_le n m le = let more = most_more n (m - n) in let same : m - n + n ≡ m = omega (arith, le) in subst (λ k. most n ≤ most k) same more
+
+-- as a product
+most_is : (n : ℕ) → 4 * most n ≡ 6 * n * (n + 1)
+most_is zero = refl
+most_is (suc n) =
+    let before = most_is n in
+    let one : 6 * suc n * (suc n + 1) ≡ 6 * suc n * suc n + 6 * suc n * 1 = mul-add (6 * suc n) (suc n) 1 in
+    let two : 6 * suc n * suc n ≡ 6 * n * suc n + 6 * suc n = ap (λ k. k * suc n) (mul-suc 6 n) ∙ add-mul (6 * n) 6 (suc n) in
+    let three : 6 * n * suc n ≡ 6 * n * (n + 1) = ap (λ k. 6 * n * k) (sym (add-one n)) in
+    omega (arith, before, one, two, three)
+
+-- what a round may still ask for, and those after it, by how many are kept, left, and put off
+abbrev keys_to_come : ℕ → ℕ → ℕ → ℕ
+keys_to_come kept left off = 3 * left + 2 * kept + most (kept + left + off - 1)
+
+abbrev holders_to_come : ℕ → ℕ → ℕ → ℕ
+holders_to_come kept left off = 2 * left + kept + most (kept + left + off - 1)
+
+abbrev values_to_come : ℕ → ℕ → ℕ → ℕ
+values_to_come zero zero off = 0
+values_to_come (suc kept) zero off = most off
+values_to_come kept (suc left) off = suc left + most off
+
+-- one more if it is so
+abbrev one_if : Bool → ℕ → ℕ
+one_if b n = cond b (n + 1) n
+
+values_fewer : (answer : Bool) (kept left off : ℕ) → values_to_come (one_if answer kept) left off + 1 ≤ values_to_come kept (suc left) off
+values_fewer true kept zero off = let same : kept + 1 ≡ suc kept = add-one kept in subst (λ k. values_to_come k zero off + 1 ≤ values_to_come kept (suc zero) off) (sym same) (by kept)
+  where
+    by : (k : ℕ) → most off + 1 ≤ values_to_come k (suc zero) off
+    by zero = omega arith
+    by (suc k) = omega arith
+values_fewer false zero zero off = omega arith
+values_fewer false (suc kept) zero off = omega arith
+values_fewer answer kept (suc left) off = by (one_if answer kept) kept
+  where
+    by : (k n : ℕ) → values_to_come k (suc left) off + 1 ≤ values_to_come n (suc (suc left)) off
+    by zero zero = omega arith
+    by zero (suc n) = omega arith
+    by (suc k) zero = omega arith
+    by (suc k) (suc n) = omega arith
+
+values_least : (kept off all : ℕ) → off ≤ all - 1 → kept ≤ all → values_to_come 0 kept off ≤ kept + most (all - 1)
+values_least zero off all le within = omega arith
+values_least (suc kept) off all le within = let few = most_le off (all - 1) le in omega (arith, few)
+
+module _ (r s g es el sc l : ℕ) where
+  abbrev e : ℕ
+  e = es + el
+
+  abbrev later : ℕ
+  later = 3 * g + s + 3 * el + es + l
+
+  -- what comes behind the marks that are made whole, by how many items are set aside
+  abbrev behind_them : Moment → ℕ → ℕ
+  behind_them First aside = sc + (2 * s + 2 * es + 6 * r + 3 * most e + later)
+  behind_them Led aside = 4 * aside + (2 * most e + later)
+  behind_them Picked aside = 2 * aside + (most e + later)
+  behind_them Last aside = later
+
+  -- how often a phase and those behind it may go over an item, by how many are kept, left, set aside, and put off
+  abbrev to_come : Option Phase → ℕ → ℕ → ℕ → ℕ → ℕ
+  to_come None kept left aside off = 0
+  to_come (Some (Keys moment)) kept left aside off = keys_to_come kept left off + behind_them moment aside
+  to_come (Some (KeysAgain moment)) kept left aside off = keys_to_come kept left off + behind_them moment aside
+  to_come (Some (Holders moment)) kept left aside off = holders_to_come kept left off + behind_them moment aside
+  to_come (Some (Values moment)) kept left aside off = values_to_come kept left off + behind_them moment aside
+  to_come (Some ShortCleanups) kept left aside off = left + (2 * s + 2 * es + 6 * r + 3 * most e + later)
+  to_come (Some ShortTargets) kept left aside off = 2 * left + kept + (2 * es + 6 * r + 3 * most e + later)
+  to_come (Some ShortWords) kept left aside off = left + (2 * es + 6 * r + 3 * most e + later)
+  to_come (Some ShortKeys) kept left aside off = 2 * left + kept + (6 * r + 3 * most e + later)
+  to_come (Some ShortKeyWords) kept left aside off = left + (6 * r + 3 * most e + later)
+  to_come (Some Objects) kept left aside off = 6 * left + 5 * kept + (3 * most e + later)
+  to_come (Some Children) kept left aside off = 5 * left + 4 * kept + (3 * most e + later)
+  to_come (Some Again) kept left aside off = 4 * left + 3 * kept + (2 * most e + later)
+  to_come (Some Picks) kept left aside off = 3 * left + 2 * kept + (2 * most e + later)
+  to_come (Some LateAgain) kept left aside off = 2 * left + kept + (most e + later)
+  to_come (Some LatePicks) kept left aside off = left + (most e + later)
+  to_come (Some LongTargets) kept left aside off = 2 * left + kept + (g + s + 3 * el + es + l)
+  to_come (Some LongWords) kept left aside off = left + (g + s + 3 * el + es + l)
+  to_come (Some LongKeys) kept left aside off = 2 * left + kept + (g + s + el + es + l)
+  to_come (Some LongKeyWords) kept left aside off = left + (g + s + el + es + l)
+  to_come (Some ShortHolders) kept left aside off = left + (g + el + es + l)
+  to_come (Some LongHolders) kept left aside off = left + (el + es + l)
+  to_come (Some ShortKeyHolders) kept left aside off = left + (el + l)
+  to_come (Some LongKeyHolders) kept left aside off = left + l
+  to_come (Some LongCleanups) kept left aside off = left
 
   abbrev to_come_in : Option Phase → Going → ℕ
-  to_come_in phase k = to_come phase (length k.kept) (length k.left)
+  to_come_in phase k = to_come phase (length k.kept) (length k.left) (length k.aside) (length k.off)
 
-  fewer : (phase : Phase) (kept new left : ℕ) → new ≤ kept + 1 → to_come (Some phase) new left + 1 ≤ to_come (Some phase) kept (suc left)
-  fewer ShortCleanups kept new left le = omega (arith, le)
-  fewer ShortTargets kept new left le = omega (arith, le)
-  fewer ShortWords kept new left le = omega (arith, le)
-  fewer Objects kept new left le = omega (arith, le)
-  fewer Children kept new left le = omega (arith, le)
-  fewer Again kept new left le = omega (arith, le)
-  fewer Picks kept new left le = omega (arith, le)
-  fewer LateAgain kept new left le = omega (arith, le)
-  fewer LatePicks kept new left le = omega (arith, le)
-  fewer LongTargets kept new left le = omega (arith, le)
-  fewer LongWords kept new left le = omega (arith, le)
-  fewer ShortHolders kept new left le = omega (arith, le)
-  fewer LongHolders kept new left le = omega (arith, le)
-  fewer LongCleanups kept new left le = omega (arith, le)
+  one_more : (b : Bool) (n : ℕ) → one_if b n ≤ n + 1
+  one_more true n = omega arith
+  one_more false n = omega arith
 
-  one_kept : (keeps : Bool) (kept : List Item) (item : Item) → length (kept_on keeps kept item) ≤ length kept + 1
-  one_kept true kept item = let long = length-append kept (item ∷ []) in omega (arith, long)
-  one_kept false kept item = omega arith
+  keys_fewer : (answer : Bool) (kept left off : ℕ) → keys_to_come (one_if answer kept) left (one_if (not answer) off) + 1 ≤ keys_to_come kept (suc left) off
+  keys_fewer true kept left off = let same : kept + 1 + left + off - 1 ≡ kept + suc left + off - 1 = omega arith in let rest = ap most same in omega (arith, rest)
+  keys_fewer false kept left off = let same : kept + left + (off + 1) - 1 ≡ kept + suc left + off - 1 = omega arith in let rest = ap most same in omega (arith, rest)
+
+  holders_fewer : (answer : Bool) (kept left off : ℕ) → holders_to_come (one_if answer kept) left (one_if (not answer) off) + 1 ≤ holders_to_come kept (suc left) off
+  holders_fewer true kept left off = let same : kept + 1 + left + off - 1 ≡ kept + suc left + off - 1 = omega arith in let rest = ap most same in omega (arith, rest)
+  holders_fewer false kept left off = let same : kept + left + (off + 1) - 1 ≡ kept + suc left + off - 1 = omega arith in let rest = ap most same in omega (arith, rest)
+
+  fewer : (phase : Phase) (item : Item) (answer : Bool) (kept left aside off : ℕ)
+      → to_come (Some phase) (one_if (keeps phase item answer) kept) left aside (one_if (puts_off phase answer) off) + 1 ≤ to_come (Some phase) kept (suc left) aside off
+  fewer (Keys moment) item answer kept left aside off = let few = keys_fewer answer kept left off in omega (arith, few)
+  fewer (KeysAgain moment) item answer kept left aside off = let few = keys_fewer answer kept left off in omega (arith, few)
+  fewer (Holders moment) item answer kept left aside off = let few = holders_fewer answer kept left off in omega (arith, few)
+  fewer (Values moment) item answer kept left aside off = let few = values_fewer answer kept left off in omega (arith, few)
+  fewer ShortCleanups item answer kept left aside off = let le = one_more (keeps ShortCleanups item answer) kept in omega (arith, le)
+  fewer ShortTargets item answer kept left aside off = let le = one_more (keeps ShortTargets item answer) kept in omega (arith, le)
+  fewer ShortWords item answer kept left aside off = let le = one_more (keeps ShortWords item answer) kept in omega (arith, le)
+  fewer ShortKeys item answer kept left aside off = let le = one_more (keeps ShortKeys item answer) kept in omega (arith, le)
+  fewer ShortKeyWords item answer kept left aside off = let le = one_more (keeps ShortKeyWords item answer) kept in omega (arith, le)
+  fewer Objects item answer kept left aside off = let le = one_more (keeps Objects item answer) kept in omega (arith, le)
+  fewer Children item answer kept left aside off = let le = one_more (keeps Children item answer) kept in omega (arith, le)
+  fewer Again item answer kept left aside off = let le = one_more (keeps Again item answer) kept in omega (arith, le)
+  fewer Picks item answer kept left aside off = let le = one_more (keeps Picks item answer) kept in omega (arith, le)
+  fewer LateAgain item answer kept left aside off = let le = one_more (keeps LateAgain item answer) kept in omega (arith, le)
+  fewer LatePicks item answer kept left aside off = let le = one_more (keeps LatePicks item answer) kept in omega (arith, le)
+  fewer LongTargets item answer kept left aside off = let le = one_more (keeps LongTargets item answer) kept in omega (arith, le)
+  fewer LongWords item answer kept left aside off = let le = one_more (keeps LongWords item answer) kept in omega (arith, le)
+  fewer LongKeys item answer kept left aside off = let le = one_more (keeps LongKeys item answer) kept in omega (arith, le)
+  fewer LongKeyWords item answer kept left aside off = let le = one_more (keeps LongKeyWords item answer) kept in omega (arith, le)
+  fewer ShortHolders item answer kept left aside off = let le = one_more (keeps ShortHolders item answer) kept in omega (arith, le)
+  fewer LongHolders item answer kept left aside off = let le = one_more (keeps LongHolders item answer) kept in omega (arith, le)
+  fewer ShortKeyHolders item answer kept left aside off = let le = one_more (keeps ShortKeyHolders item answer) kept in omega (arith, le)
+  fewer LongKeyHolders item answer kept left aside off = let le = one_more (keeps LongKeyHolders item answer) kept in omega (arith, le)
+  fewer LongCleanups item answer kept left aside off = let le = one_more (keeps LongCleanups item answer) kept in omega (arith, le)
+
+  long_on : (b : Bool) (kept : List Item) (item : Item) → length (kept_on b kept item) ≡ one_if b (length kept)
+  long_on true kept item = length-append kept (item ∷ [])
+  long_on false kept item = refl
 
   -- ---- answers
 
+  abbrev Cleanups : Map Attached → Type 0
+  Cleanups m = HasOf Short sc m × HasOf Long l m
+
+  fewer_cleanups : (m : Map Attached) (number : ℕ) → Cleanups m → Cleanups (remove m number)
+  fewer_cleanups m number h = (fewer_of Short sc m number h.0, fewer_of Long l m number h.1)
+
+  abbrev IsFit : State → Type 0
+  IsFit = IsWithin r s g es el Cleanups
+
+  abbrev past_one : Phase → Item → Bool → State → List Item → List Item → List Item → List Item → Going
+  past_one phase item answer t kept left aside off = at (after phase item answer t) (kept_on (keeps phase item answer) kept item) left aside (kept_on (puts_off phase answer) off item)
+
   module _ (phase : Phase) where
-    steps_fewer : (answers : List Bool) (t : State) (kept left : List Item) → IsWithin r s g (HasLong l) t → length answers ≤ length left
-        → IsWithin r s g (HasLong l) (steps phase answers (at t kept left)).finalizers × (length answers + to_come_in (Some phase) (steps phase answers (at t kept left)) ≤ to_come (Some phase) (length kept) (length left))
-    steps_fewer [] t kept left h few = (h, omega arith)
-    steps_fewer (answer ∷ answers) t kept [] h few = absurd (omega (arith, few))
-    steps_fewer (answer ∷ answers) t kept (item ∷ left) h few =
-        let rest = steps_fewer answers (after phase item answer t) (kept_on (keeps phase item answer) kept item) left (still r s g (HasLong l) (fewer_long l) t h phase item answer) (omega (arith, few)) in
-        let one = fewer phase (length kept) (length (kept_on (keeps phase item answer) kept item)) (length left) (one_kept (keeps phase item answer) kept item) in
+    past_fewer : (item : Item) (answer : Bool) (t : State) (kept left aside off : List Item)
+        → to_come_in (Some phase) (past_one phase item answer t kept left aside off) + 1 ≤ to_come (Some phase) (length kept) (suc (length left)) (length aside) (length off)
+    past_fewer item answer t kept left aside off =
+        subst (λ k. to_come (Some phase) k (length left) (length aside) (length (kept_on (puts_off phase answer) off item)) + 1 ≤ to_come (Some phase) (length kept) (suc (length left)) (length aside) (length off)) (sym (long_on (keeps phase item answer) kept item))
+        (subst (λ o. to_come (Some phase) (one_if (keeps phase item answer) (length kept)) (length left) (length aside) o + 1 ≤ to_come (Some phase) (length kept) (suc (length left)) (length aside) (length off)) (sym (long_on (puts_off phase answer) off item))
+        (fewer phase item answer (length kept) (length left) (length aside) (length off)))
+
+    steps_fewer : (answers : List Bool) (t : State) (kept left aside off : List Item) → IsFit t → length answers ≤ length left
+        → IsFit (steps phase answers (at t kept left aside off)).finalizers
+        × (length answers + to_come_in (Some phase) (steps phase answers (at t kept left aside off)) ≤ to_come (Some phase) (length kept) (length left) (length aside) (length off))
+    steps_fewer [] t kept left aside off h few = (h, omega arith)
+    steps_fewer (answer ∷ answers) t kept [] aside off h few = absurd (omega (arith, few))
+    steps_fewer (answer ∷ answers) t kept (item ∷ left) aside off h few =
+        let k = past_one phase item answer t kept left aside off in
+        let rest = steps_fewer answers k.finalizers k.kept left aside k.off (still r s g es el Cleanups fewer_cleanups t h phase item answer) (omega (arith, few)) in
+        let one = past_fewer item answer t kept left aside off in
         let all = rest.1 in
         (rest.0, omega (arith, all, one))
 
-    skips_fewer : (left : List Item) (t : State) (kept : List Item) → IsWithin r s g (HasLong l) t
-        → IsWithin r s g (HasLong l) (skipped phase left (at t kept left)).finalizers × (to_come_in (Some phase) (skipped phase left (at t kept left)) ≤ to_come (Some phase) (length kept) (length left))
-    skips_fewer [] t kept h = (h, omega arith)
-    skips_fewer (item ∷ left) t kept h = by (is_some (asks phase item)) (skips_fewer left (after phase item false t) (kept_on (keeps phase item false) kept item) (still r s g (HasLong l) (fewer_long l) t h phase item false))
+    abbrev IsPast : Going → ℕ → Type 0
+    IsPast k n = IsFit k.finalizers × (to_come_in (Some phase) k ≤ n)
+
+    skips_fewer : (left : List Item) (t : State) (kept aside off : List Item) → IsFit t
+        → IsPast (skipped phase left (at t kept left aside off)) (to_come (Some phase) (length kept) (length left) (length aside) (length off))
+    skips_fewer [] t kept aside off h = (h, omega arith)
+    skips_fewer (item ∷ left) t kept aside off h =
+        by (is_some (asks phase item)) (skips_fewer left k.finalizers k.kept aside k.off (still r s g es el Cleanups fewer_cleanups t h phase item false))
       where
-        by : (b : Bool) → IsWithin r s g (HasLong l) (skipped phase left (at (after phase item false t) (kept_on (keeps phase item false) kept item) left)).finalizers
-            × (to_come_in (Some phase) (skipped phase left (at (after phase item false t) (kept_on (keeps phase item false) kept item) left)) ≤ to_come (Some phase) (length (kept_on (keeps phase item false) kept item)) (length left))
-            → IsWithin r s g (HasLong l) (cond b (at t kept (item ∷ left)) (skipped phase left (at (after phase item false t) (kept_on (keeps phase item false) kept item) left))).finalizers
-            × (to_come_in (Some phase) (cond b (at t kept (item ∷ left)) (skipped phase left (at (after phase item false t) (kept_on (keeps phase item false) kept item) left))) ≤ to_come (Some phase) (length kept) (suc (length left)))
+        k : Going
+        k = past_one phase item false t kept left aside off
+
+        by : (b : Bool) → IsPast (skipped phase left (past_one phase item false t kept left aside off)) (to_come_in (Some phase) (past_one phase item false t kept left aside off))
+            → IsPast (cond b (at t kept (item ∷ left) aside off) (skipped phase left (past_one phase item false t kept left aside off))) (to_come (Some phase) (length kept) (suc (length left)) (length aside) (length off))
         by true rest = (h, omega arith)
-        by false rest =
-            let one = fewer phase (length kept) (length (kept_on (keeps phase item false) kept item)) (length left) (one_kept (keeps phase item false) kept item) in
-            let all = rest.1 in
-            (rest.0, omega (arith, all, one))
+        by false rest = let one = past_fewer item false t kept left aside off in let all = rest.1 in (rest.0, omega (arith, all, one))
+
+    skip_fewer : (k : Going) → IsFit k.finalizers → IsPast (skip phase k) (to_come_in (Some phase) k)
+    skip_fewer k h = skips_fewer k.left k.finalizers k.kept k.aside k.off h
 
   -- ---- the next phase
 
@@ -111,54 +255,129 @@ module _ (r s g l c : ℕ) where
   links_few : (links : Map ℕ) (items : List Item) → AreLinks links items → length items ≡ len links
   links_few links items are = ap length are.2 ∙ length-map are.0 of_link ∙ entries links are.0 are.1
 
+  rows_few : (k : Ephemerons) (items : List Item) → AreEphemerons k items → length items ≡ len k.short + len k.long
+  rows_few k items (shorts, longs, short, long, is) =
+      let all = ap length is ∙ length-append shorts longs in
+      let few_short = links_few k.short shorts short in
+      let few_long = links_few k.long longs long in
+      omega (arith, all, few_short, few_long)
+
   objects_few : (registrations : Map Registration) (late : Set) (items : List Item) → AreObjects registrations late items → length items ≡ len registrations
   objects_few registrations late items are = ap length are.3 ∙ length-map are.0 of_stored ∙ sym (length-map are.0 plain) ∙ entries registrations (map plain are.0) are.1
 
-  cleanups_few : (cleanups : Map Attached) (items : List Item) → HasLong l cleanups → AreCleanups Long cleanups items → length items ≤ l
-  cleanups_few cleanups items has are =
+  cleanups_few : (when : LinkKind) (n : ℕ) (cleanups : Map Attached) (items : List Item) → HasOf when n cleanups → AreCleanups when cleanups items → length items ≤ n
+  cleanups_few when n cleanups items has are =
       let same = ap length are.2 ∙ length-map are.0 of_cleanup in
       let few = has are.0 (record { each = are.1.each; ordered = are.1.ordered }) in
       omega (arith, same, few)
 
-  module _ (t : State) (h : IsWithin r s g (HasLong l) t) (kept : List Item) where
-    abbrev IsFewer : Phase → Option Phase → Type 0
-    IsFewer phase None = Unit {0}
-    IsFewer phase (Some next) = (items : List Item) → Lists next t kept items → to_come (Some next) 0 (length items) ≤ to_come (Some phase) (length kept) 0
+  module _ (t : State) (h : IsFit t) where
+    -- the next phase begins with no more to come
+    abbrev IsFewer : Phase → List Item → List Item → List Item → Option Phase → Type 0
+    IsFewer phase kept aside off None = Unit {0}
+    IsFewer phase kept aside off (Some next) =
+        (items : List Item) → Lists next t (given next kept aside off) items
+        → to_come (Some next) 0 (length items) (length (aside_in next kept aside)) (length (off_in next off)) ≤ to_come (Some phase) (length kept) 0 (length aside) (length off)
 
-    turns_fewer : (phase : Phase) → IsFewer phase (next_phase phase)
-    turns_fewer ShortCleanups = λ items are. let many = links_few t.short items are in let few = h.short in omega (arith, many, few)
-    turns_fewer ShortTargets = λ items is. let same = ap length is in omega (arith, same)
-    turns_fewer ShortWords = λ items are. let many = objects_few t.registrations t.late items are in let few = h.registered in omega (arith, many, few)
-    turns_fewer Objects = λ items is. let same = ap length is in omega (arith, same)
-    turns_fewer Children = λ items is. let same = ap length is in omega (arith, same)
-    turns_fewer Again = λ items turned. let same = length_permutation kept items turned.0 in omega (arith, same)
-    turns_fewer Picks = λ items is. let same = ap length is in omega (arith, same)
-    turns_fewer LateAgain = λ items is. let same = ap length is in omega (arith, same)
-    turns_fewer LatePicks = λ items are. let many = links_few t.long items are in let few = h.long in omega (arith, many, few)
-    turns_fewer LongTargets = λ items is. let same = ap length is in omega (arith, same)
-    turns_fewer LongWords = λ items are. let many = links_few t.short items are in let few = h.short in omega (arith, many, few)
-    turns_fewer ShortHolders = λ items are. let many = links_few t.long items are in let few = h.long in omega (arith, many, few)
-    turns_fewer LongHolders = λ items are. let few = cleanups_few t.cleanups items h.attached are in omega (arith, few)
-    turns_fewer LongCleanups = tt
+    rows_begin : (items : List Item) → AreEphemerons t.ephemerons items → keys_to_come 0 (length items) 0 ≤ most e
+    rows_begin items are =
+        let count = rows_few t.ephemerons items are in
+        let few_short = h.short_keys in
+        let few_long = h.long_keys in
+        let few = most_le (length items) e (omega (arith, count, few_short, few_long)) in
+        let next = most_next (length items) in
+        let same : 0 + length items + 0 - 1 ≡ length items - 1 = omega arith in
+        let rest = ap most same in
+        omega (arith, few, next, rest)
 
-  goes_fewer : (phase : Phase) (k : Going) (last : Option Phase) (m : Going) → GoesOn phase k last m → IsWithin r s g (HasLong l) k.finalizers → IsWithin r s g (HasLong l) m.finalizers × (to_come_in last m ≤ to_come_in (Some phase) k)
-  goes_fewer phase k last m (Asks item left some) h = skips_fewer phase k.left k.finalizers k.kept h
+    keys_turn : (moment : Moment) (kept aside off items : List Item) → items ≡ kept
+        → holders_to_come 0 (length items) (length off) + behind_them moment (length aside) ≤ keys_to_come (length kept) 0 (length off) + behind_them moment (length aside)
+    keys_turn moment kept aside off items is =
+        let long = ap length is in
+        let same : 0 + length items + length off - 1 ≡ length kept + 0 + length off - 1 = omega (arith, long) in
+        let rest = ap most same in
+        omega (arith, long, rest)
+
+    holders_turn : (moment : Moment) (kept aside off items : List Item) → items ≡ kept
+        → values_to_come 0 (length items) (length off) + behind_them moment (length aside) ≤ holders_to_come (length kept) 0 (length off) + behind_them moment (length aside)
+    holders_turn moment kept aside off items is = subst (λ n. values_to_come 0 n (length off) + behind_them moment (length aside) ≤ holders_to_come (length kept) 0 (length off) + behind_them moment (length aside)) (sym (ap length is)) (by (length kept))
+      where
+        by : (n : ℕ) → values_to_come 0 n (length off) + behind_them moment (length aside) ≤ holders_to_come n 0 (length off) + behind_them moment (length aside)
+        by zero = omega arith
+        by (suc n) =
+            let few = most_le (length off) (suc n + 0 + length off - 1) (omega arith) in
+            omega (arith, few)
+
+    again_turn : (moment : Moment) (item : Item) (kept aside off items : List Item) → items ≡ off
+        → keys_to_come 0 (length items) 0 + behind_them moment (length aside) ≤ values_to_come (suc (length kept)) 0 (length off) + behind_them moment (length aside)
+    again_turn moment item kept aside off items is =
+        let long = ap length is in
+        let same : 0 + length items + 0 - 1 ≡ length off - 1 = omega (arith, long) in
+        let rest = ap most same in
+        let next = most_next (length off) in
+        omega (arith, long, rest, next)
+
+    behind_turn : (moment : Moment) (aside off : List Item) → IsFewer (Values moment) [] aside off (Some (behind moment))
+    behind_turn First aside off = λ items are. let few = cleanups_few Short sc t.cleanups items h.attached.0 are in omega (arith, few)
+    behind_turn Led aside off = λ items is. let same = ap length is in omega (arith, same)
+    behind_turn Picked aside off = λ items is. let same = ap length is in omega (arith, same)
+    behind_turn Last aside off = λ items are. let many = links_few t.long items are in let few = h.long in omega (arith, many, few)
+
+    turns_fewer : (phase : Phase) (kept aside off : List Item) → IsFewer phase kept aside off (next_phase phase kept)
+    turns_fewer (Keys moment) kept aside off = λ items is. keys_turn moment kept aside off items is
+    turns_fewer (KeysAgain moment) kept aside off = λ items is. keys_turn moment kept aside off items is
+    turns_fewer (Holders moment) kept aside off = λ items is. holders_turn moment kept aside off items is
+    turns_fewer (Values moment) [] aside off = behind_turn moment aside off
+    turns_fewer (Values moment) (item ∷ kept) aside off = λ items is. again_turn moment item kept aside off items is
+    turns_fewer ShortCleanups kept aside off = λ items are. let many = links_few t.short items are in let few = h.short in omega (arith, many, few)
+    turns_fewer ShortTargets kept aside off = λ items is. let same = ap length is in omega (arith, same)
+    turns_fewer ShortWords kept aside off = λ items are. let many = links_few t.ephemerons.short items are in let few = h.short_keys in omega (arith, many, few)
+    turns_fewer ShortKeys kept aside off = λ items is. let same = ap length is in omega (arith, same)
+    turns_fewer ShortKeyWords kept aside off = λ items are. let many = objects_few t.registrations t.late items are in let few = h.registered in omega (arith, many, few)
+    turns_fewer Objects kept aside off = λ items is. let same = ap length is in omega (arith, same)
+    turns_fewer Children kept aside off = λ items are. let few = rows_begin items are in omega (arith, few)
+    turns_fewer Again kept aside off = λ items turned. let same = length_permutation kept items turned.0 in omega (arith, same)
+    turns_fewer Picks kept aside off = λ items are. let few = rows_begin items are in omega (arith, few)
+    turns_fewer LateAgain kept aside off = λ items is. let same = ap length is in omega (arith, same)
+    turns_fewer LatePicks kept aside off = λ items are. let few = rows_begin items are in omega (arith, few)
+    turns_fewer LongTargets kept aside off = λ items is. let same = ap length is in omega (arith, same)
+    turns_fewer LongWords kept aside off = λ items are. let many = links_few t.ephemerons.long items are in let few = h.long_keys in omega (arith, many, few)
+    turns_fewer LongKeys kept aside off = λ items is. let same = ap length is in omega (arith, same)
+    turns_fewer LongKeyWords kept aside off = λ items are. let many = links_few t.short items are in let few = h.short in omega (arith, many, few)
+    turns_fewer ShortHolders kept aside off = λ items are. let many = links_few t.long items are in let few = h.long in omega (arith, many, few)
+    turns_fewer LongHolders kept aside off = λ items are. let many = links_few t.ephemerons.short items are in let few = h.short_keys in omega (arith, many, few)
+    turns_fewer ShortKeyHolders kept aside off = λ items are. let many = links_few t.ephemerons.long items are in let few = h.long_keys in omega (arith, many, few)
+    turns_fewer LongKeyHolders kept aside off = λ items are. let few = cleanups_few Long l t.cleanups items h.attached.1 are in omega (arith, few)
+    turns_fewer LongCleanups kept aside off = tt
+
+  goes_fewer : (phase : Phase) (k : Going) (last : Option Phase) (m : Going) → GoesOn phase k last m → IsFit k.finalizers → IsFit m.finalizers × (to_come_in last m ≤ to_come_in (Some phase) k)
+  goes_fewer phase k last m (Asks item left some) h = skip_fewer phase k h
   goes_fewer phase k last m (Turns {next = next} {h = n} none turns begins rest) h =
-      let past = skips_fewer phase k.left k.finalizers k.kept h in
-      let on = goes_fewer next n last m rest (subst (IsWithin r s g (HasLong l)) (sym begins.same) past.0) in
-      let turn : to_come (Some next) 0 (length n.left) ≤ to_come (Some phase) (length (skip phase k).kept) 0 =
-      subst (IsFewer (skip phase k).finalizers past.0 (skip phase k).kept phase) turns (turns_fewer (skip phase k).finalizers past.0 (skip phase k).kept phase) n.left begins.lists in
-      let here : to_come_in (Some next) n ≤ to_come (Some phase) (length (skip phase k).kept) 0 = subst (λ (xs : List Item). to_come (Some next) (length xs) (length n.left) ≤ to_come (Some phase) (length (skip phase k).kept) 0) (sym begins.none) turn in
-      let there : to_come (Some phase) (length (skip phase k).kept) 0 ≤ to_come_in (Some phase) k = subst (λ (xs : List Item). to_come (Some phase) (length (skip phase k).kept) (length xs) ≤ to_come_in (Some phase) k) none past.1 in
+      let past = skip_fewer phase k h in
+      let p = skip phase k in
+      let on = goes_fewer next n last m rest (subst IsFit (sym begins.same) past.0) in
+      let turn : to_come (Some next) 0 (length n.left) (length (aside_in next p.kept p.aside)) (length (off_in next p.off)) ≤ to_come (Some phase) (length p.kept) 0 (length p.aside) (length p.off) =
+      subst (IsFewer p.finalizers past.0 phase p.kept p.aside p.off) turns (turns_fewer p.finalizers past.0 phase p.kept p.aside p.off) n.left begins.lists in
+      let here : to_come_in (Some next) n ≤ to_come (Some phase) (length p.kept) 0 (length p.aside) (length p.off) =
+      subst (λ (x : Going). to_come_in (Some next) x ≤ to_come (Some phase) (length p.kept) 0 (length p.aside) (length p.off))
+      (λ i. record { finalizers = n.finalizers; kept = sym begins.none i; left = n.left; aside = sym begins.aside i; off = sym begins.off i }) turn in
+      let there : to_come (Some phase) (length p.kept) 0 (length p.aside) (length p.off) ≤ to_come_in (Some phase) k =
+      subst (λ (xs : List Item). to_come (Some phase) (length p.kept) (length xs) (length p.aside) (length p.off) ≤ to_come_in (Some phase) k) none past.1 in
       let all = on.1 in
       (on.0, omega (arith, all, here, there))
-  goes_fewer phase k last m (Ends none turns) h = let past = skips_fewer phase k.left k.finalizers k.kept h in (past.0, omega arith)
+  goes_fewer phase k last m (Ends none turns) h = let past = skip_fewer phase k h in (past.0, omega arith)
 
   -- ---- a run
 
+  abbrev to_come_at : Machine → ℕ
+  to_come_at m = to_come m.phase (length m.walk.kept) (length m.walk.left) (length m.walk.aside) (length m.walk.off)
+
+  abbrev all_to_come : ℕ
+  all_to_come = most e + behind_them First 0
+
   record IsHearing (n : ℕ) (m : Machine) : Type 0 where
-    within : IsWithin r s g (HasLong l) m.finalizers.state
-    few : n + to_come m.phase (length m.walk.kept) (length m.walk.left) ≤ 6 * r + 3 * (s + g) + c
+    within : IsFit m.finalizers.state
+    few : n + to_come_at m ≤ all_to_come
     asked : (p : Phase) → m.phase ≡ Some p → covered m ≤ length m.walk.left
 
   asked_for : (m : Machine) (next : Next) → Tells m next → (p : Phase) → m.phase ≡ Some p → covered m ≤ length m.walk.left
@@ -179,19 +398,19 @@ module _ (r s g l c : ℕ) where
       let apart = work_apart 0 [] m.finalizers.state n.finalizers.state event work follows in
       ap covered keeps ∙ ap (λ xs. m.asked + length xs) (items_same m.finalizers.state n.finalizers.state (ap (λ (t : State). t.registrations) apart) (ap (λ (t : State). t.late) apart) m.regions)
 
-  worked_within : (t u : State) (event : Event) → IsWork event → Follows t event u → IsWithin r s g (HasLong l) t → IsWithin r s g (HasLong l) u
+  worked_within : (t u : State) (event : Event) → IsWork event → Follows t event u → IsFit t → IsFit u
   worked_within t u event work follows h =
-      let there = subst (IsWithin r s g (HasLong l)) (sym (work_apart 0 [] t u event work follows)) (record { registered = h.registered; short = h.short; long = h.long; attached = h.attached }) in
-      record { registered = there.registered; short = there.short; long = there.long; attached = there.attached }
+      let there = subst (IsFit) (sym (work_apart 0 [] t u event work follows)) (record { registered = h.registered; short = h.short; long = h.long; short_keys = h.short_keys; long_keys = h.long_keys; attached = h.attached }) in
+      record { registered = there.registered; short = there.short; long = there.long; short_keys = there.short_keys; long_keys = there.long_keys; attached = there.attached }
 
   heard : (begun m : Machine) (n : ℕ) → IsHearing 0 begun → Hears begun m n → IsHearing n m
   heard begun m n h Begun = h
   heard begun m n h (Goes {m = old} {next = next} {n = before} answers few goes hears) =
       let was = heard begun old before h hears in
       let asked = was.asked goes.phase goes.was in
-      let stepped = steps_fewer goes.phase answers old.finalizers.state old.walk.kept old.walk.left was.within (omega (arith, few, asked)) in
+      let stepped = steps_fewer goes.phase answers old.finalizers.state old.walk.kept old.walk.left old.walk.aside old.walk.off was.within (omega (arith, few, asked)) in
       let on = goes_fewer goes.phase (steps goes.phase answers (going old.finalizers old.walk)) m.phase (going m.finalizers m.walk) goes.goes stepped.0 in
-      let so_far = subst (λ o. before + to_come o (length old.walk.kept) (length old.walk.left) ≤ 6 * r + 3 * (s + g) + c) goes.was was.few in
+      let so_far = subst (λ o. before + to_come o (length old.walk.kept) (length old.walk.left) (length old.walk.aside) (length old.walk.off) ≤ all_to_come) goes.was was.few in
       let here = stepped.1 in
       let there = on.1 in
       record { within = on.0; few = omega (arith, so_far, here, there); asked = asked_for m next goes.tells }
@@ -200,26 +419,38 @@ module _ (r s g l c : ℕ) where
       let now = worked_within old.finalizers.state m.finalizers.state worked.event worked.work worked.follows was.within in
       record {
         within = now;
-        few = subst (λ (k : Machine). n + to_come k.phase (length k.walk.kept) (length k.walk.left) ≤ 6 * r + 3 * (s + g) + c) (sym worked.keeps) was.few;
+        few = subst (λ (k : Machine). n + to_come_at k ≤ all_to_come) (sym worked.keeps) was.few;
         asked = λ p at. subst (λ k. k ≤ length m.walk.left) (sym (still_covered old m worked.event worked.work worked.follows worked.keeps))
             (subst (λ xs. covered old ≤ length xs) (sym (ap (λ (k : Machine). k.walk.left) worked.keeps)) (was.asked p (sym (ap (λ (k : Machine). k.phase) worked.keeps) ∙ at)));
       }
+
+none_before : (a b : ℕ) → a ≤ b → 0 + a ≤ b
+none_before a b le = omega (arith, le)
 
 pub passes_end : PassesEnd
 passes_end old begun m n is hears =
     let t = old.finalizers.state in
     let r = len t.registrations in
-    let same = is.finalizers in
-    let listed : AreCleanups Short t.cleanups begun.walk.left = subst (λ (u : State). AreCleanups Short u.cleanups begun.walk.left) same is.begins.lists in
-    let l = len t.cleanups - length listed.0 in
-    let few = short_few t.cleanups listed.0 listed.1 in
-    let long = ap length listed.2 ∙ length-map listed.0 of_cleanup in
-    let many : length begun.walk.left + l ≤ len t.cleanups = omega (arith, few, long) in
-    let kept = ap length is.begins.none in
-    let start : IsHearing r (len t.short) (len t.long) l (len t.cleanups) 0 begun = record {
-      within = subst (IsWithin r (len t.short) (len t.long) (HasLong l)) (sym same) (record { registered = omega arith; short = omega arith; long = omega arith; attached = long_few t.cleanups listed.0 listed.1 });
-      few = subst (λ o. 0 + to_come r (len t.short) (len t.long) l (len t.cleanups) o (length begun.walk.kept) (length begun.walk.left) ≤ 6 * r + 3 * (len t.short + len t.long) + len t.cleanups) (sym is.phase) (omega (arith, many, kept));
+    let s = len t.short in
+    let g = len t.long in
+    let es = len t.ephemerons.short in
+    let el = len t.ephemerons.long in
+    let kinds = both_kinds t.cleanups in
+    let sc = kinds.0 in
+    let l = kinds.1 in
+    let fit : IsFit r s g es el sc l t = record { registered = omega arith; short = omega arith; long = omega arith; short_keys = omega arith; long_keys = omega arith; attached = (kinds.2, kinds.3) } in
+    let listed : AreEphemerons t.ephemerons begun.walk.left = subst (λ (u : State). AreEphemerons u.ephemerons begun.walk.left) is.finalizers is.begins.lists in
+    let few = rows_begin r s g es el sc l t fit begun.walk.left listed in
+    let first : to_come r s g es el sc l (Some (Keys First)) 0 (length begun.walk.left) 0 0 ≤ all_to_come r s g es el sc l = omega (arith, few) in
+    let start : IsHearing r s g es el sc l 0 begun = record {
+      within = subst (IsFit r s g es el sc l) (sym is.finalizers) (record { registered = omega arith; short = omega arith; long = omega arith; short_keys = omega arith; long_keys = omega arith; attached = (kinds.2, kinds.3) });
+      few = subst (λ o. 0 + to_come r s g es el sc l o (length begun.walk.kept) (length begun.walk.left) (length begun.walk.aside) (length begun.walk.off) ≤ all_to_come r s g es el sc l) (sym is.phase)
+          (none_before (to_come r s g es el sc l (Some (Keys First)) (length begun.walk.kept) (length begun.walk.left) (length begun.walk.aside) (length begun.walk.off)) (all_to_come r s g es el sc l)
+          (subst (λ (k : Going). to_come_in r s g es el sc l (Some (Keys First)) k ≤ all_to_come r s g es el sc l)
+          (λ i. record { finalizers = t; kept = sym is.begins.none i; left = begun.walk.left; aside = sym is.begins.aside i; off = sym is.begins.off i }) first));
       asked = λ p at. let none = is.asked in let no_items = ap (λ rs. length (items_in begun.finalizers.state rs)) is.regions in omega (arith, none, no_items);
     } in
-    let end = (heard r (len t.short) (len t.long) l (len t.cleanups) begun m n start hears).few in
-    omega (arith, end)
+    let end = (heard r s g es el sc l begun m n start hears).few in
+    let product = most_is (es + el) in
+    let count = kinds.4 in
+    omega (arith, end, product, count)

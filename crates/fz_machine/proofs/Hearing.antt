@@ -17,8 +17,8 @@ use Rattle.fz_machine.specs.Walks.{Walk}
 use Rattle.fz_machine.proofs.Marked.{says_none, steps_marks}
 use Rattle.fz_machine.proofs.Places.{object_back}
 
-abbrev pub at : State → List Item → List Item → Going
-at s kept left = record { finalizers = s; kept = kept; left = left }
+abbrev pub at : State → List Item → List Item → List Item → List Item → Going
+at s aside off kept left = record { finalizers = s; kept = kept; left = left; aside = aside; off = off }
 
 -- the items of the region to process next have room
 pub fits_first : (s : State) (walk : Walk) (regions : Regions) (r : ℕ × ℕ) → slice_get regions.left 0 ≡ Some r → HasRoomToKeep s walk regions → length walk.kept + length (items_of s (objects_in r)) ≤ walk.room
@@ -33,16 +33,16 @@ fits_first s walk regions r first room = by regions.left first room
         subst (λ (x : ℕ × ℕ). length walk.kept + length (items_of s (objects_in x)) ≤ walk.room) (same_Some q r at) (omega (arith, few, long))
 
 -- the first of the regions that were asked about
-pub heard_one : (s : State) (kept new : List Item) (r : ℕ × ℕ) (rs : List (ℕ × ℕ)) (others : List Item) (word asked : ℕ) (words : List ℕ) → 0 < asked
+pub heard_one : (s : State) (aside off kept new : List Item) (r : ℕ × ℕ) (rs : List (ℕ × ℕ)) (others : List Item) (word asked : ℕ) (words : List ℕ) → 0 < asked
     → new ≡ kept ++ filter (λ (item : Item). not (has_bit word (place_in item.object))) (items_of s (objects_in r))
-    → steps Objects (marks_say s (take asked (r ∷ rs)) (word ∷ words)) (at s kept (items_in s (r ∷ rs) ++ others)) ≡ steps Objects (marks_say s (take (asked - 1) rs) words) (at s new (items_in s rs ++ others))
-heard_one s kept new r rs others word zero words some is = absurd (omega (arith, some))
-heard_one s kept new r rs others word (suc asked) words some is =
+    → steps Objects (marks_say s (take asked (r ∷ rs)) (word ∷ words)) (at s aside off kept (items_in s (r ∷ rs) ++ others)) ≡ steps Objects (marks_say s (take (asked - 1) rs) words) (at s aside off new (items_in s rs ++ others))
+heard_one s aside off kept new r rs others word zero words some is = absurd (omega (arith, some))
+heard_one s aside off kept new r rs others word (suc asked) words some is =
     let less : suc asked - 1 ≡ asked = omega arith in
-    ap (λ xs. steps Objects (marks_say s (take (suc asked) (r ∷ rs)) (word ∷ words)) (at s kept xs)) (append_assoc (items_of s (objects_in r)) (items_in s rs) others)
-    ∙ steps_marks s word (items_of s (objects_in r)) (items_in s rs ++ others) kept (marks_say s (take asked rs) words)
-    ∙ ap (λ xs. steps Objects (marks_say s (take asked rs) words) (at s xs (items_in s rs ++ others))) (sym is)
-    ∙ ap (λ n. steps Objects (marks_say s (take n rs) words) (at s new (items_in s rs ++ others))) (sym less)
+    ap (λ xs. steps Objects (marks_say s (take (suc asked) (r ∷ rs)) (word ∷ words)) (at s aside off kept xs)) (append_assoc (items_of s (objects_in r)) (items_in s rs) others)
+    ∙ steps_marks s word aside off (items_of s (objects_in r)) (items_in s rs ++ others) kept (marks_say s (take asked rs) words)
+    ∙ ap (λ xs. steps Objects (marks_say s (take asked rs) words) (at s aside off xs (items_in s rs ++ others))) (sym is)
+    ∙ ap (λ n. steps Objects (marks_say s (take n rs) words) (at s aside off new (items_in s rs ++ others))) (sym less)
 
 -- the word for it
 pub word_at : (xs : List ℕ) (n i : ℕ) → i < length (take n xs) → drop i xs ≡ get_or (take n xs) i 0 ∷ drop (i + 1) xs

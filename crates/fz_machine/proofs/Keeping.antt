@@ -1,5 +1,5 @@
 -- Each answer keeps what holds in its phase.
-use Rattle.std.proofs.Common.{◌≡◌, ◌+◌, ◌*◌, ◌^◌, ◌⊎◌, ◌++◌, ◌∷◌, ◌∙◌, [], ℕ, Bool, true, false, not, cond, List, Some, refl, sym, ap, subst, inl, inr, ⊎_elim, append_assoc, arith, Option}
+use Rattle.std.proofs.Common.{◌≡◌, ◌+◌, ◌*◌, ◌^◌, ◌⊎◌, ◌++◌, ◌∷◌, ◌∙◌, [], ℕ, Bool, true, false, not, cond, List, Some, None, refl, sym, ap, subst, inl, inr, ⊎_elim, append_assoc, arith, Option}
 use Rattle.std.specs.FinMap.{get, remove}
 use Rattle.std.specs.FinSet.{contains}
 use Rattle.std.proofs.lemmas.Bool.{both_ways}
@@ -19,30 +19,34 @@ use Rattle.fz_finalizers.specs.Follows.{queued_object}
 use Rattle.fz_finalizers.specs.Kinds.{is_late, of_table}
 use Rattle.fz_finalizers.specs.States.{State}
 use Rattle.fz_machine.specs.declared.item.Item.{Item}
+use Rattle.fz_machine.specs.declared.phase.Moment.{Moment}
+use Rattle.fz_machine.specs.declared.phase.Moment.TheVariants as moments
 use Rattle.fz_machine.specs.declared.phase.Phase.{Phase}
-use Rattle.fz_machine.specs.declared.phase.Phase.TheVariants.{ShortCleanups, ShortTargets, ShortWords, Objects, Children, Again, Picks, LateAgain, LatePicks, LongTargets, LongWords, ShortHolders, LongHolders, LongCleanups}
+use Rattle.fz_machine.specs.declared.phase.Phase.TheVariants.{Keys, KeysAgain, Holders, Values, ShortCleanups, ShortTargets, ShortWords, ShortKeys, ShortKeyWords, Objects, Children, Again, Picks, LateAgain, LatePicks, LongTargets, LongWords, LongKeys, LongKeyWords, ShortHolders, LongHolders, ShortKeyHolders, LongKeyHolders, LongCleanups}
 use Rattle.fz_machine.specs.declared.question.Ask.TheVariants.{MarkAlone}
 use Rattle.fz_machine.specs.Graph.{Graph, IsHonest}
 use Rattle.fz_machine.specs.Items.{of_other, place_of}
-use Rattle.fz_machine.specs.Phases.{after, asks, child_ask, keeps, pick_ask, subject}
+use Rattle.fz_machine.specs.Phases.{after, asks, child_ask, keeps, pick_ask, puts_off, subject, without_key}
 use Rattle.fz_machine.proofs.Among.{AreInOrder, OneOf, each_push, one_last, one_left, order_after, order_without}
-use Rattle.fz_machine.proofs.Begun.{HasBegun, births, late_led, late_starts, late_there, normal, others_led, registered, starts}
+use Rattle.fz_machine.proofs.Begun.{HasBegun, births, late_led, late_starts, late_there, normal, only_long, only_short, others_led, registered, starts}
 use Rattle.fz_machine.proofs.Cleaning.{cleaning_on}
 use Rattle.fz_machine.proofs.Choosing.{marked_alone, marked_by_kind}
 use Rattle.fz_machine.proofs.Chosen.{chosen_again, chosen_more, chosen_on, no_more, place_in, still}
 use Rattle.fz_machine.proofs.Entered.{IsLate, IsLateAt, IsOfEither}
 use Rattle.fz_machine.proofs.Led.{lead_more}
-use Rattle.fz_machine.proofs.Phased.{IsIn, IsUnfound, LeadsOn, PicksLate, PicksOn, clear, short_left}
+use Rattle.fz_machine.proofs.Phased.{IsIn, IsSettling, IsUnfound, LeadsOn, PickedBoth, PicksLate, PicksOn, after_picks, begun_with, clear, judged, keys_held, keys_left, long_held, long_keys_left, long_left, short_held, short_left}
 use Rattle.fz_machine.proofs.Phasing.{clears_on, holds_on, kept_on, sifts_on}
+use Rattle.fz_machine.proofs.DeadWords.{remove_none, retained_before, retained_none}
 use Rattle.fz_machine.proofs.Sifting.{IsAt}
-use Rattle.fz_machine.proofs.Stated.{queued_none, queued_on, state_with, tabled}
+use Rattle.fz_machine.proofs.Stated.{queued_none, queued_on, state_with, tabled, with_keys}
+use Rattle.fz_machine.proofs.Waiting.{looks_on}
 
 not_late_kind : (kind : RegKind) → is_late (of_table false kind) ≡ false
 not_late_kind table.Normal = refl
 not_late_kind table.IgnoreSelf = refl
 not_late_kind table.NoOrder = refl
 
-module _ (E : Type 0) (word_of : ℕ → Option ℕ) (b : State) (before : Graph) (begin : HasBegun word_of b before) where
+module _ (E : Type 0) (word_of : ℕ → Option ℕ) (value : Map Object → ℕ → Option ℕ) (b : State) (before : Graph) (begin : HasBegun word_of b before) where
   abbrev Either : Item → Type 0
   Either = IsOfEither b.registrations b.late
 
@@ -50,16 +54,19 @@ module _ (E : Type 0) (word_of : ℕ → Option ℕ) (b : State) (before : Graph
   Late = IsLate b.registrations b.late
 
   abbrev clearly : Map Object
-  clearly = clear E word_of b before
+  clearly = clear E word_of value b before
+
+  abbrev keyed : State
+  keyed = with_keys b (judged E word_of value b before)
 
   -- ---- children
 
-  leads_on : (s : State) (kept left : List Item) (item : Item) (h new : Graph) → LeadsOn E word_of b before s kept (item ∷ left) h → (answer : Bool) → IsHonest E word_of (child_ask item.kind) item.object h answer new
-      → LeadsOn E word_of b before s (kept ++ item ∷ []) left new
+  leads_on : (s : State) (kept left : List Item) (item : Item) (h new : Graph) → LeadsOn E word_of value b before s kept (item ∷ left) h → (answer : Bool) → IsHonest E word_of value (child_ask item.kind) item.object h answer new
+      → LeadsOn E word_of value b before s (kept ++ item ∷ []) left new
   leads_on s kept left item h new p answer honest = record {
     state = p.state;
-    are = lead_more E word_of clearly b.registrations b.late before.marked (registered E word_of b before begin) (normal E word_of b before begin) item left h new p.are p.left_are.0.1 p.left_are.0.0 answer honest;
-    kept_are = each_push (IsUnfound E word_of b before) kept item p.kept_are p.left_are.0;
+    are = lead_more E word_of value clearly b.registrations b.late before.marked (registered E word_of value b before begin) (normal E word_of value b before begin) item left h new p.are p.left_are.0.1 p.left_are.0.0 answer honest;
+    kept_are = each_push (IsUnfound E word_of value b before) kept item p.kept_are p.left_are.0;
     left_are = p.left_are.1;
     rest = λ object word at off. ⊎_elim (λ k. inl (one_left (IsAt object word) kept (item ∷ []) k)) (by object word) (p.rest object word at off);
   }
@@ -70,10 +77,10 @@ module _ (E : Type 0) (word_of : ℕ → Option ℕ) (b : State) (before : Graph
 
   -- ---- picks
 
-  module _ (s : State) (kept left : List Item) (item : Item) (h new : Graph) (p : PicksOn E word_of b before s kept (item ∷ left) h) where
+  module _ (s : State) (kept left : List Item) (item : Item) (h new : Graph) (p : PicksOn E word_of value b before s kept (item ∷ left) h) where
     -- one that comes late waits
-    waits : Late item → new ≡ h → PicksOn E word_of b before s (kept ++ item ∷ []) left new
-    waits late same = subst (λ (x : Graph). PicksOn E word_of b before s (kept ++ item ∷ []) left x) (sym same) (record {
+    waits : Late item → new ≡ h → PicksOn E word_of value b before s (kept ++ item ∷ []) left new
+    waits late same = subst (λ (x : Graph). PicksOn E word_of value b before s (kept ++ item ∷ []) left x) (sym same) (record {
       leading = p.leading;
       now = p.now;
       picks = p.picks;
@@ -104,13 +111,13 @@ module _ (E : Type 0) (word_of : ℕ → Option ℕ) (b : State) (before : Graph
           by (inl here_at) = absurd (both_ways (contains b.late item.object) off (ap (contains b.late) here_at.0 ∙ at.1))
           by (inr k) = inr k
 
-      again : p.are.gone item.object ≡ true → PicksOn E word_of b before (queued_object s item.object) kept left new
+      again : p.are.gone item.object ≡ true → PicksOn E word_of value b before (queued_object s item.object) kept left new
       again on = record {
         leading = p.leading;
         now = p.now;
         picks = p.picks;
         state = ap (λ t. queued_object t item.object) p.state
-            ∙ queued_none b (short_left E word_of b before) b.long p.now.registrations p.now.late p.picks item.object
+            ∙ queued_none keyed (short_left E word_of value b before) b.long p.now.registrations p.now.late p.picks item.object
             (no_more E clearly (tabled b) p.leading.led false (contains b.late) 0 p.now p.picks item left h new p.are r here unskipped place on);
         are = chosen_again E clearly (tabled b) p.leading.led false (contains b.late) 0 p.now p.picks item left h new p.are r here unskipped place same m on;
         kept_are = p.kept_are;
@@ -119,47 +126,47 @@ module _ (E : Type 0) (word_of : ℕ → Option ℕ) (b : State) (before : Graph
         ordered = order_without place_of kept item left p.ordered;
       }
 
-      now_picked : p.are.gone item.object ≡ false → PicksOn E word_of b before (queued_object s item.object) kept left new
+      now_picked : p.are.gone item.object ≡ false → PicksOn E word_of value b before (queued_object s item.object) kept left new
       now_picked none =
-          let object = is_some_of (get clearly item.object) (ap not (registered E word_of b before begin item.object r here)) in
+          let object = is_some_of (get clearly item.object) (ap not (registered E word_of value b before begin item.object r here)) in
           record {
             leading = p.leading;
             now = left_by p.now item.object;
             picks = p.picks ++ pick_of r item.object unknown ∷ [];
             state = ap (λ t. queued_object t item.object) p.state
-                ∙ queued_on b (short_left E word_of b before) b.long p.now.registrations p.now.late p.picks item.object r
+                ∙ queued_on keyed (short_left E word_of value b before) b.long p.now.registrations p.now.late p.picks item.object r
                 (still E clearly (tabled b) p.leading.led false (contains b.late) 0 p.now p.picks item left h new p.are r here unskipped place none);
-            are = chosen_more E clearly (tabled b) p.leading.led false (contains b.late) 0 p.now p.picks item left h new p.are r here unskipped place same m (starts E word_of b before begin)
-                (order_after place_of kept item left p.ordered) object.0 object.1 (births E word_of b before begin item.object object.0 object.1) none;
+            are = chosen_more E clearly (tabled b) p.leading.led false (contains b.late) 0 p.now p.picks item left h new p.are r here unskipped place same m (starts E word_of value b before begin)
+                (order_after place_of kept item left p.ordered) object.0 object.1 (births E word_of value b before begin item.object object.0 object.1) none;
             kept_are = p.kept_are;
             left_are = p.left_are.1;
             rest = others;
             ordered = order_without place_of kept item left p.ordered;
           }
 
-      picked : (on : Bool) → p.are.gone item.object ≡ on → PicksOn E word_of b before (queued_object s item.object) kept left new
+      picked : (on : Bool) → p.are.gone item.object ≡ on → PicksOn E word_of value b before (queued_object s item.object) kept left new
       picked true on = again on
       picked false none = now_picked none
 
-    picks_on : (answer : Bool) → IsHonest E word_of (pick_ask item.kind) item.object h answer new
-        → PicksOn E word_of b before (cond (is_late item.kind) s (queued_object s item.object)) (kept_on (is_late item.kind) kept item) left new
+    picks_on : (answer : Bool) → IsHonest E word_of value (pick_ask item.kind) item.object h answer new
+        → PicksOn E word_of value b before (cond (is_late item.kind) s (queued_object s item.object)) (kept_on (is_late item.kind) kept item) left new
     picks_on answer honest = by p.left_are.0.0
       where
-        by : Either item → PicksOn E word_of b before (cond (is_late item.kind) s (queued_object s item.object)) (kept_on (is_late item.kind) kept item) left new
+        by : Either item → PicksOn E word_of value b before (cond (is_late item.kind) s (queued_object s item.object)) (kept_on (is_late item.kind) kept item) left new
         by (inl (r, here, off, is)) =
             let kind = ap (λ (i : Item). i.kind) is in
-            let m = marked_by_kind E word_of clearly item.object h new p.are.objects p.are.closed (registered E word_of b before begin item.object r here) r.kind
-            (λ a leads. p.are.least a (others_led E word_of b before begin p.leading item.object r here (ap not p.left_are.0.1) a leads)) answer
-            (subst (λ (k : Kind). IsHonest E word_of (pick_ask k) item.object h answer new) kind honest) in
-            subst (λ late. PicksOn E word_of b before (cond late s (queued_object s item.object)) (kept_on late kept item) left new) (sym (ap is_late kind ∙ not_late_kind r.kind)) (picked r here off is m.0 m.1 (p.are.gone item.object) refl)
+            let m = marked_by_kind E word_of value clearly item.object h new p.are.objects p.are.closed (registered E word_of value b before begin item.object r here) r.kind
+            (λ a leads. p.are.least a (others_led E word_of value b before begin p.leading item.object r here (ap not p.left_are.0.1) a leads)) answer
+            (subst (λ (k : Kind). IsHonest E word_of value (pick_ask k) item.object h answer new) kind honest) in
+            subst (λ late. PicksOn E word_of value b before (cond late s (queued_object s item.object)) (kept_on late kept item) left new) (sym (ap is_late kind ∙ not_late_kind r.kind)) (picked r here off is m.0 m.1 (p.are.gone item.object) refl)
         by (inr late) =
             let kind = ap (λ (i : Item). i.kind) late.3 in
-            subst (λ (k : Kind). PicksOn E word_of b before (cond (is_late k) s (queued_object s item.object)) (kept_on (is_late k) kept item) left new) (sym kind)
-            (waits late (subst (λ (k : Kind). IsHonest E word_of (pick_ask k) item.object h answer new) kind honest))
+            subst (λ (k : Kind). PicksOn E word_of value b before (cond (is_late k) s (queued_object s item.object)) (kept_on (is_late k) kept item) left new) (sym kind)
+            (waits late (subst (λ (k : Kind). IsHonest E word_of value (pick_ask k) item.object h answer new) kind honest))
 
   -- ---- picks of late ones
 
-  module _ (s : State) (left : List Item) (item : Item) (h new : Graph) (p : PicksLate E word_of b before s (item ∷ left) h) where
+  module _ (s : State) (left : List Item) (item : Item) (h new : Graph) (p : PicksLate E word_of value b before s (item ∷ left) h) where
     abbrev r : Registration
     r = p.left_are.0.0.0
 
@@ -170,7 +177,7 @@ module _ (E : Type 0) (word_of : ℕ → Option ℕ) (b : State) (before : Graph
     was = p.left_are.0.0.1
 
     here : get p.first.table.registrations item.object ≡ Some r
-    here = late_there E word_of b before begin p.first item.object on_it ∙ was
+    here = late_there E word_of value b before begin p.first item.object on_it ∙ was
 
     late_unskipped : skips true (contains b.late) p.first.mid item.object ≡ false
     late_unskipped = unskips true (contains b.late) p.first.mid item.object on_it p.left_are.0.1
@@ -179,66 +186,134 @@ module _ (E : Type 0) (word_of : ℕ → Option ℕ) (b : State) (before : Graph
     late_place = ap place_of p.left_are.0.0.3
 
     module _ (same : new.objects ≡ h.objects) (m : Marks E clearly h.marked new.marked (Leads clearly item.object)) where
-      again_late : p.are.gone item.object ≡ true → PicksLate E word_of b before (queued_object s item.object) left new
+      again_late : p.are.gone item.object ≡ true → PicksLate E word_of value b before (queued_object s item.object) left new
       again_late on = record {
         first = p.first;
         now = p.now;
         late_picks = p.late_picks;
         state = ap (λ t. queued_object t item.object) p.state
-            ∙ queued_none b (short_left E word_of b before) b.long p.now.registrations p.now.late (p.first.picks ++ p.late_picks) item.object
+            ∙ queued_none keyed (short_left E word_of value b before) b.long p.now.registrations p.now.late (p.first.picks ++ p.late_picks) item.object
             (no_more E clearly p.first.table p.first.mid true (contains b.late) 256 p.now p.late_picks item left h new p.are r here late_unskipped late_place on);
         are = chosen_again E clearly p.first.table p.first.mid true (contains b.late) 256 p.now p.late_picks item left h new p.are r here late_unskipped late_place same m on;
         left_are = p.left_are.1;
         ordered = p.ordered.1;
       }
 
-      late_picked : p.are.gone item.object ≡ false → PicksLate E word_of b before (queued_object s item.object) left new
+      late_picked : p.are.gone item.object ≡ false → PicksLate E word_of value b before (queued_object s item.object) left new
       late_picked none =
-          let object = is_some_of (get clearly item.object) (ap not (registered E word_of b before begin item.object r was)) in
+          let object = is_some_of (get clearly item.object) (ap not (registered E word_of value b before begin item.object r was)) in
           let pick = pick_of r item.object unknown in
           record {
             first = p.first;
             now = left_by p.now item.object;
             late_picks = p.late_picks ++ pick ∷ [];
             state = ap (λ t. queued_object t item.object) p.state
-                ∙ queued_on b (short_left E word_of b before) b.long p.now.registrations p.now.late (p.first.picks ++ p.late_picks) item.object r
+                ∙ queued_on keyed (short_left E word_of value b before) b.long p.now.registrations p.now.late (p.first.picks ++ p.late_picks) item.object r
                 (still E clearly p.first.table p.first.mid true (contains b.late) 256 p.now p.late_picks item left h new p.are r here late_unskipped late_place none)
-                ∙ ap (λ ps. state_with b (short_left E word_of b before) b.long (left_by p.now item.object).registrations (left_by p.now item.object).late ps) (append_assoc p.first.picks p.late_picks (pick ∷ []));
-            are = chosen_more E clearly p.first.table p.first.mid true (contains b.late) 256 p.now p.late_picks item left h new p.are r here late_unskipped late_place same m (late_starts E word_of b before begin p.first)
-                p.ordered.0 object.0 object.1 (births E word_of b before begin item.object object.0 object.1) none;
+                ∙ ap (λ ps. state_with keyed (short_left E word_of value b before) b.long (left_by p.now item.object).registrations (left_by p.now item.object).late ps) (append_assoc p.first.picks p.late_picks (pick ∷ []));
+            are = chosen_more E clearly p.first.table p.first.mid true (contains b.late) 256 p.now p.late_picks item left h new p.are r here late_unskipped late_place same m (late_starts E word_of value b before begin p.first)
+                p.ordered.0 object.0 object.1 (births E word_of value b before begin item.object object.0 object.1) none;
             left_are = p.left_are.1;
             ordered = p.ordered.1;
           }
 
-      picked_late : (on : Bool) → p.are.gone item.object ≡ on → PicksLate E word_of b before (queued_object s item.object) left new
+      picked_late : (on : Bool) → p.are.gone item.object ≡ on → PicksLate E word_of value b before (queued_object s item.object) left new
       picked_late true on = again_late on
       picked_late false none = late_picked none
 
-    picks_late_on : (answer : Bool) → IsHonest E word_of (Some MarkAlone) item.object h answer new → PicksLate E word_of b before (queued_object s item.object) left new
+    picks_late_on : (answer : Bool) → IsHonest E word_of value (Some MarkAlone) item.object h answer new → PicksLate E word_of value b before (queued_object s item.object) left new
     picks_late_on answer honest =
-        let m = marked_alone E word_of clearly item.object h new p.are.objects p.are.closed (registered E word_of b before begin item.object r was) r.kind (inl (normal E word_of b before begin item.object r was on_it))
-        (λ a leads. p.are.least a (late_led E word_of b before begin p.first item.object r here (ap not p.left_are.0.1) a leads)) answer honest in
+        let m = marked_alone E word_of value clearly item.object h new p.are.objects p.are.closed (registered E word_of value b before begin item.object r was) r.kind (inl (normal E word_of value b before begin item.object r was on_it))
+        (λ a leads. p.are.least a (late_led E word_of value b before begin p.first item.object r here (ap not p.left_are.0.1) a leads)) answer honest in
         picked_late m.0 m.1 (p.are.gone item.object) refl
+
+  -- ---- ephemerons go
+
+  abbrev shorts : Map ℕ
+  shorts = short_left E word_of value b before
+
+  abbrev keys : Map ℕ
+  keys = keys_left E word_of value b before
+
+  abbrev longs : PickedBoth E word_of value b before → Map ℕ
+  longs c = long_keys_left E word_of value b before c
+
+  key_word_on : (now : Map ℕ) (word key : ℕ) → get b.ephemerons.short word ≡ Some key → without_key (begun_with E word_of value b before shorts now) word ≡ begun_with E word_of value b before shorts (remove now word)
+  key_word_on now word key here =
+      let none = remove_none b.ephemerons.long word (only_short E word_of value b before begin word key here) in
+      λ i. record (begun_with E word_of value b before shorts now) { ephemerons = record { short = remove now word; long = none i } }
+
+  module _ (c : PickedBoth E word_of value b before) (short long : Map ℕ) where
+    -- a short one goes, and the long ones have none of this word
+    short_key_on : (others : Map ℕ) → ((word : ℕ) → get b.ephemerons.long word ≡ None → get others word ≡ None) → (now : Map ℕ) (word key : ℕ) → get keys word ≡ Some key
+        → without_key (after_picks E word_of value b before c short long now others) word ≡ after_picks E word_of value b before c short long (remove now word) others
+    short_key_on others fewer now word key here =
+        let was = retained_before b.ephemerons.short _ word key here in
+        let none = remove_none others word (fewer word (only_short E word_of value b before begin word key was)) in
+        λ i. record (after_picks E word_of value b before c short long now others) { ephemerons = record { short = remove now word; long = none i } }
+
+    long_key_on : (others : Map ℕ) → ((word : ℕ) → get b.ephemerons.short word ≡ None → get others word ≡ None) → (now : Map ℕ) (word key : ℕ) → get b.ephemerons.long word ≡ Some key
+        → without_key (after_picks E word_of value b before c short long others now) word ≡ after_picks E word_of value b before c short long others (remove now word)
+    long_key_on others fewer now word key here =
+        let none = remove_none others word (fewer word (only_long E word_of value b before begin word key here)) in
+        λ i. record (after_picks E word_of value b before c short long others now) { ephemerons = record { short = none i; long = remove now word } }
+
+  no_keys : (word : ℕ) → get b.ephemerons.short word ≡ None → get keys word ≡ None
+  no_keys word none = retained_none b.ephemerons.short _ word none
+
+  -- ---- while the marks become whole
+
+  settles_on : (moment : Moment) (phase : Phase) (s : State) (kept left aside off : List Item) (item : Item) (h new : Graph) → IsSettling E word_of value b before moment phase s kept (item ∷ left) aside off h → (answer : Bool)
+      → IsHonest E word_of value (asks phase item) (subject phase item) h answer new
+      → IsSettling E word_of value b before moment phase s (kept_on (keeps phase item answer) kept item) left aside (kept_on (puts_off phase answer) off item) new
+  settles_on moments.First phase s kept left aside off item h new p answer honest = absurd p
+  settles_on moments.Led phase s kept left aside off item h new (w, p) answer honest = (w, looks_on E word_of value clearly (judged E word_of value b before) w.marked phase kept left off item h new p answer honest)
+  settles_on moments.Picked phase s kept left aside off item h new (w, p) answer honest = (w, looks_on E word_of value clearly (judged E word_of value b before) w.marked phase kept left off item h new p answer honest)
+  settles_on moments.Last phase s kept left aside off item h new (w, p) answer honest = (w, looks_on E word_of value clearly (judged E word_of value b before) w.marked phase kept left off item h new p answer honest)
 
   -- ---- all phases
 
-  pub keep : (phase : Phase) (s : State) (kept left : List Item) (item : Item) (h new : Graph) → IsIn E word_of b before phase s kept (item ∷ left) h → (answer : Bool) → IsHonest E word_of (asks phase item) (subject phase item) h answer new
-      → IsIn E word_of b before phase (after phase item answer s) (kept_on (keeps phase item answer) kept item) left new
-  keep ShortCleanups s kept left item h new p answer honest = absurd p
-  keep ShortTargets s kept left item h new p answer honest = sifts_on E word_of _ _ _ _ _ s kept left item h new p answer honest
-  keep ShortWords s kept left item h new p answer honest = clears_on E word_of _ _ _ _ (λ t word. record t { short = remove t.short word }) (λ now word. refl) s left item h new p answer honest
-  keep Objects s kept left item h new p answer honest = sifts_on E word_of _ _ _ _ _ s kept left item h new p answer honest
-  keep Children s kept left item h new p answer honest = leads_on s kept left item h new p answer honest
-  keep Again s kept left item h new (l, p) answer honest = (l, sifts_on E word_of _ _ _ _ _ s kept left item h new p answer honest)
-  keep Picks s kept left item h new p answer honest = picks_on s kept left item h new p answer honest
-  keep LateAgain s kept left item h new (c, p, ordered) answer honest = (c, sifts_on E word_of _ _ _ _ _ s kept left item h new p answer honest, by answer)
+  pub keep : (phase : Phase) (s : State) (kept left aside off : List Item) (item : Item) (h new : Graph) → IsIn E word_of value b before phase s kept (item ∷ left) aside off h → (answer : Bool)
+      → IsHonest E word_of value (asks phase item) (subject phase item) h answer new
+      → IsIn E word_of value b before phase (after phase item answer s) (kept_on (keeps phase item answer) kept item) left aside (kept_on (puts_off phase answer) off item) new
+  keep (Keys moment) s kept left aside off item h new p answer honest = settles_on moment (Keys moment) s kept left aside off item h new p answer honest
+  keep (KeysAgain moment) s kept left aside off item h new p answer honest = settles_on moment (KeysAgain moment) s kept left aside off item h new p answer honest
+  keep (Holders moment) s kept left aside off item h new p answer honest = settles_on moment (Holders moment) s kept left aside off item h new p answer honest
+  keep (Values moment) s kept left aside off item h new p answer honest = settles_on moment (Values moment) s kept left aside off item h new p answer honest
+  keep ShortCleanups s kept left aside off item h new p answer honest = absurd p
+  keep ShortTargets s kept left aside off item h new p answer honest = sifts_on E word_of value _ _ _ _ _ s kept left item h new p answer honest
+  keep ShortWords s kept left aside off item h new p answer honest = clears_on E word_of value _ _ _ _ (λ t word. record t { short = remove t.short word }) (λ now word target here. refl) s left item h new p answer honest
+  keep ShortKeys s kept left aside off item h new p answer honest = sifts_on E word_of value _ _ _ _ _ s kept left item h new p answer honest
+  keep ShortKeyWords s kept left aside off item h new p answer honest = clears_on E word_of value _ _ _ _ without_key key_word_on s left item h new p answer honest
+  keep Objects s kept left aside off item h new p answer honest = sifts_on E word_of value _ _ _ _ _ s kept left item h new p answer honest
+  keep Children s kept left aside off item h new p answer honest = leads_on s kept left item h new p answer honest
+  keep Again s kept left aside off item h new (l, p) answer honest = (l, sifts_on E word_of value _ _ _ _ _ s kept left item h new p answer honest)
+  keep Picks s kept left aside off item h new p answer honest = picks_on s kept left item h new p answer honest
+  keep LateAgain s kept left aside off item h new (c, p, ordered) answer honest = (c, sifts_on E word_of value _ _ _ _ _ s kept left item h new p answer honest, by answer)
     where
       by : (yes : Bool) → AreInOrder place_of (kept_on (not yes) kept item ++ left)
       by true = order_without place_of kept item left ordered
       by false = subst (AreInOrder place_of) (sym (append_assoc kept (item ∷ []) left)) ordered
-  keep LatePicks s kept left item h new p answer honest = picks_late_on s left item h new p answer honest
-  keep LongTargets s kept left item h new (c, p) answer honest = (c, sifts_on E word_of _ _ _ _ _ s kept left item h new p answer honest)
-  keep LongWords s kept left item h new (c, p) answer honest = (c, clears_on E word_of _ _ _ _ (λ t word. record t { long = remove t.long word }) (λ now word. refl) s left item h new p answer honest)
-  keep ShortHolders s kept left item h new (c, p) answer honest = (c, holds_on E word_of _ _ _ _ (λ t word. record t { short = remove t.short word }) (λ now word. refl) s left item h new p answer honest)
-  keep LongHolders s kept left item h new (c, p) answer honest = (c, holds_on E word_of _ _ _ _ (λ t word. record t { long = remove t.long word }) (λ now word. refl) s left item h new p answer honest)
-  keep LongCleanups s kept left item h new (c, p) answer honest = (c, cleaning_on E word_of _ _ _ _ s left item h new p answer honest)
+  keep LatePicks s kept left aside off item h new p answer honest = picks_late_on s left item h new p answer honest
+  keep LongTargets s kept left aside off item h new (c, p) answer honest = (c, sifts_on E word_of value _ _ _ _ _ s kept left item h new p answer honest)
+  keep LongWords s kept left aside off item h new (c, p) answer honest =
+      (c, clears_on E word_of value _ _ _ _ (λ t word. record t { long = remove t.long word }) (λ now word target here. refl) s left item h new p answer honest)
+  keep LongKeys s kept left aside off item h new (c, p) answer honest = (c, sifts_on E word_of value _ _ _ _ _ s kept left item h new p answer honest)
+  keep LongKeyWords s kept left aside off item h new (c, p) answer honest =
+      (c, clears_on E word_of value _ _ _ _ without_key (long_key_on c shorts (long_left E word_of value b before c) keys no_keys) s left item h new p answer honest)
+  keep ShortHolders s kept left aside off item h new (c, p) answer honest =
+      (c, holds_on E word_of value _ _ _ _ (λ t word. record t { short = remove t.short word }) (λ now word target here. refl) s left item h new p answer honest)
+  keep LongHolders s kept left aside off item h new (c, p) answer honest =
+      (c, holds_on E word_of value _ _ _ _ (λ t word. record t { long = remove t.long word }) (λ now word target here. refl) s left item h new p answer honest)
+  keep ShortKeyHolders s kept left aside off item h new (c, p) answer honest = (
+    c,
+    holds_on E word_of value _ _ _ _ without_key
+        (short_key_on c (short_held E word_of value b before c) (long_held E word_of value b before c) (longs c) (λ word none. retained_none b.ephemerons.long _ word none)) s left item h new p answer honest,
+  )
+  keep LongKeyHolders s kept left aside off item h new (c, p) answer honest = (
+    c,
+    holds_on E word_of value _ _ _ _ without_key
+        (λ now word key here. long_key_on c (short_held E word_of value b before c) (long_held E word_of value b before c) (keys_held E word_of value b before c) (λ w none. retained_none keys _ w (no_keys w none)) now word key (retained_before b.ephemerons.long _ word key here))
+        s left item h new p answer honest,
+  )
+  keep LongCleanups s kept left aside off item h new (c, p) answer honest = (c, cleaning_on E word_of value _ _ _ _ s left item h new p answer honest)

@@ -23,7 +23,7 @@ use Rattle.fz_machine.specs.Phases.{child_ask}
 use Rattle.fz_machine.proofs.Among.{OneOf}
 use Rattle.fz_machine.proofs.Entered.{IsOfEither}
 
-module _ (E : Type 0) (word_of : ℕ → Option ℕ) (clear : Map Object) (all : Map Registration) (late : Set) (found : ℕ → Bool) where
+module _ (E : Type 0) (word_of : ℕ → Option ℕ) (value : Map Object → ℕ → Option ℕ) (clear : Map Object) (all : Map Registration) (late : Set) (found : ℕ → Bool) where
   abbrev IsLed : ℕ → Type 0
   IsLed a = AreLeading clear all (is_unreachable clear all found) a
 
@@ -85,7 +85,7 @@ module _ (E : Type 0) (word_of : ℕ → Option ℕ) (clear : Map Object) (all :
       gains P g = subst (λ (m : Map Object). Marks E m h.marked new.marked (P m)) l.objects g.1
 
       -- by its kind
-      by_kind : (r : Registration) → get all item.object ≡ Some r → (kind : RegKind) → r.kind ≡ kind → (answer : Bool) → IsHonest E word_of (child_ask (of_table false kind)) item.object h answer new → AreLed left new
+      by_kind : (r : Registration) → get all item.object ≡ Some r → (kind : RegKind) → r.kind ≡ kind → (answer : Bool) → IsHonest E word_of value (child_ask (of_table false kind)) item.object h answer new → AreLed left new
       by_kind r here table.Normal is answer honest =
           let g = honest (can_mark r here) in
           leads_on r here g.0 (subst (λ k. Marks E clear h.marked new.marked (IsLeading clear item.object k)) (sym is)
@@ -98,7 +98,7 @@ module _ (E : Type 0) (word_of : ℕ → Option ℕ) (clear : Map Object) (all :
           leads_on r here (ap (λ (x : Graph). x.objects) same) (subst (λ (x : Graph). Marks E clear h.marked x.marked (IsLeading clear item.object r.kind)) (sym same)
           (marks_none E clear h.marked (IsLeading clear item.object r.kind) l.closed (λ a leads. absurd (by_none E clear item.object a (subst (λ k. IsLeading clear item.object k a) is leads)))))
 
-      pub lead_more : IsOfEither all late item → (answer : Bool) → IsHonest E word_of (child_ask item.kind) item.object h answer new → AreLed left new
-      lead_more (inl (r, here, off, is)) answer honest = by_kind r here r.kind refl answer (subst (λ (k : Kind). IsHonest E word_of (child_ask k) item.object h answer new) (ap (λ (i : Item). i.kind) is) honest)
+      pub lead_more : IsOfEither all late item → (answer : Bool) → IsHonest E word_of value (child_ask item.kind) item.object h answer new → AreLed left new
+      lead_more (inl (r, here, off, is)) answer honest = by_kind r here r.kind refl answer (subst (λ (k : Kind). IsHonest E word_of value (child_ask k) item.object h answer new) (ap (λ (i : Item). i.kind) is) honest)
       lead_more (inr (r, here, on, is)) answer honest =
-          by_kind r here table.Normal (normal item.object r here on) answer (subst (λ (k : Kind). IsHonest E word_of (child_ask k) item.object h answer new) (ap (λ (i : Item). i.kind) is) honest)
+          by_kind r here table.Normal (normal item.object r here on) answer (subst (λ (k : Kind). IsHonest E word_of value (child_ask k) item.object h answer new) (ap (λ (i : Item). i.kind) is) honest)

@@ -30,6 +30,7 @@ pub mod Stated
 pub mod Phasing
 pub mod Choosing
 pub mod Cleaning
+pub mod Waiting
 pub mod Phased
 pub mod Begun
 pub mod Keeping
@@ -39,8 +40,10 @@ pub mod Throughout
 pub mod Working
 pub mod Worked
 pub mod Rounds
+pub mod Opening
 pub mod Ran
 pub mod Fewer
 pub mod Called
+pub mod Rowed
 mod Askable
 mod Honest

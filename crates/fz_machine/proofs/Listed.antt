@@ -1,6 +1,11 @@
 -- A list that is filled from the entries of a map.
 use Rattle.std.proofs.Common.{◌≡◌, ◌++◌, ◌≤◌, ◌<◌, ◌+◌, ℕ, List, [], ◌∷◌, map, length, refl, sym, ap, ◌∙◌, append_assoc, append-nil, arith}
-use Rattle.std.proofs.lemmas.List.{map-append, length-append}
+use Rattle.std.proofs.lemmas.List.{map-append, length-append, length-map}
+use Rattle.std.specs.FinMap.{len}
+use Rattle.fz_model.specs.State.{Map}
+use Rattle.fz_model.proofs.KeyedEntries.{len_made}
+use Rattle.fz_machine.specs.declared.item.Item.{Item}
+use Rattle.fz_machine.specs.Items.{AreLinks, of_link}
 
 module _ {X Y : Type 0} (f : X → Y) (before : List Y) (es : List X) where
   -- the entries that were yielded stand on the list, behind what stood there
@@ -30,3 +35,7 @@ module _ {X Y : Type 0} (f : X → Y) (before : List Y) (es : List X) where
     -- there is room for one more
     pub may_put : (room long : ℕ) (next : List X) (e : X) → it ≡ e ∷ next → long ≡ length items → length before + length es ≤ room → long < room
     may_put room long next e steps is enough = let left = ap length steps in let few = are.few in omega (arith, left, few, enough, is)
+
+-- as many items as links
+pub links_count : (links : Map ℕ) (items : List Item) → AreLinks links items → length items ≡ len links
+links_count links items are = ap length are.2 ∙ length-map are.0 of_link ∙ sym (len_made are.0 are.1.1) ∙ ap len are.1.0

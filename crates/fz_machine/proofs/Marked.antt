@@ -136,12 +136,12 @@ module _ (s : State) (word : ℕ) where
   kept_too kept item items true = append_assoc kept (item ∷ []) items
   kept_too kept item items false = refl
 
-  pub steps_marks : (items more kept : List Item) (answers : List Bool)
-      → steps Objects (map (λ (item : Item). has_bit word (place_in item.object)) items ++ answers) (record { finalizers = s; kept = kept; left = items ++ more }) ≡ steps Objects answers (record { finalizers = s; kept = kept ++ filter stays items; left = more })
-  steps_marks [] more kept answers = ap (λ xs. steps Objects answers (record { finalizers = s; kept = xs; left = more })) (sym (append-nil kept))
-  steps_marks (item ∷ items) more kept answers =
-      steps_marks items more (cond (stays item) (kept ++ item ∷ []) kept) answers
-      ∙ ap (λ xs. steps Objects answers (record { finalizers = s; kept = xs; left = more })) (kept_too kept item (filter stays items) (stays item))
+  pub steps_marks : (aside off items more kept : List Item) (answers : List Bool)
+      → steps Objects (map (λ (item : Item). has_bit word (place_in item.object)) items ++ answers) (record { finalizers = s; kept = kept; left = items ++ more; aside = aside; off = off }) ≡ steps Objects answers (record { finalizers = s; kept = kept ++ filter stays items; left = more; aside = aside; off = off })
+  steps_marks aside off [] more kept answers = ap (λ xs. steps Objects answers (record { finalizers = s; kept = xs; left = more; aside = aside; off = off })) (sym (append-nil kept))
+  steps_marks aside off (item ∷ items) more kept answers =
+      steps_marks aside off items more (cond (stays item) (kept ++ item ∷ []) kept) answers
+      ∙ ap (λ xs. steps Objects answers (record { finalizers = s; kept = xs; left = more; aside = aside; off = off })) (kept_too kept item (filter stays items) (stays item))
 
   pub says_none : (regions : List (ℕ × ℕ)) → marks_say s regions [] ≡ []
   says_none [] = refl

@@ -1,6 +1,6 @@
 -- Phases that ask and clear, over whichever links and registrations.
 use Rattle.std.proofs.Common.{◌≡◌, ◌++◌, ◌∷◌, ◌∙◌, [], ℕ, Bool, true, false, not, cond, List, Some, sym, ap, subst, Option}
-use Rattle.std.specs.FinMap.{remove}
+use Rattle.std.specs.FinMap.{get, remove}
 use Rattle.fz_model.specs.State.{Map, Object}
 use Rattle.fz_model.specs.Pass.{cleared}
 use Rattle.fz_pass.specs.Marks.{AreTargets, with_targets, with_holders}
@@ -11,8 +11,8 @@ use Rattle.fz_machine.specs.declared.question.Ask.TheVariants.{IsMarked, Clear, 
 use Rattle.fz_machine.specs.Graph.{Graph, IsHonest}
 use Rattle.fz_machine.specs.Items.{AreLinks}
 use Rattle.fz_machine.proofs.Among.{Each, OneOf}
-use Rattle.fz_machine.proofs.DeadWords.{AreCleared, AreHeld, IsLink, IsLinkAt, clearing_begins, clear_more, cleared_all, hold_more, holding_begins, held_all}
-use Rattle.fz_machine.proofs.Entered.{links_all}
+use Rattle.fz_machine.proofs.DeadWords.{AreCleared, AreHeld, IsLink, IsLinkAt, clearing_begins, clear_more, cleared_all, dead_link, hold_more, holding_begins, held_all}
+use Rattle.fz_machine.proofs.Entered.{links_all, links_each}
 use Rattle.fz_machine.proofs.Sifting.{Sifted, IsAt, sift, sift_begins}
 
 -- whether an item is kept, as a phase goes on
@@ -21,14 +21,14 @@ kept_on keeps kept item = cond keeps (kept ++ item ∷ []) kept
 
 -- ---- which objects are marked
 
-module _ (E : Type 0) (word_of : ℕ → Option ℕ) (at : State) (objects : Map Object) (marked : ℕ → Bool) (P : Item → Type 0) (Wanted : ℕ → ℕ → Type 0) where
+module _ (E : Type 0) (word_of : ℕ → Option ℕ) (value : Map Object → ℕ → Option ℕ) (at : State) (objects : Map Object) (marked : ℕ → Bool) (P : Item → Type 0) (Wanted : ℕ → ℕ → Type 0) where
   pub record Sifts (s : State) (kept left : List Item) (h : Graph) : Type 0 where
     pub state : s ≡ at
     pub objects_are : h.objects ≡ objects
     pub marks_are : h.marked ≡ marked
     pub sifted : Sifted marked P Wanted kept left
 
-  pub sifts_on : (s : State) (kept left : List Item) (item : Item) (h new : Graph) → Sifts s kept (item ∷ left) h → (answer : Bool) → IsHonest E word_of (Some IsMarked) item.object h answer new
+  pub sifts_on : (s : State) (kept left : List Item) (item : Item) (h new : Graph) → Sifts s kept (item ∷ left) h → (answer : Bool) → IsHonest E word_of value (Some IsMarked) item.object h answer new
       → Sifts s (kept_on (not answer) kept item) left new
   sifts_on s kept left item h new p answer honest =
       let is = honest tt in
@@ -45,26 +45,27 @@ module _ (E : Type 0) (word_of : ℕ → Option ℕ) (at : State) (objects : Map
 
 -- ---- words of dead links are cleared
 
-module _ (E : Type 0) (word_of : ℕ → Option ℕ) (at : Map ℕ → State) (objects : Map Object) (links : Map ℕ) (marked : ℕ → Bool) where
+module _ (E : Type 0) (word_of : ℕ → Option ℕ) (value : Map Object → ℕ → Option ℕ) (at : Map ℕ → State) (objects : Map Object) (links : Map ℕ) (marked : ℕ → Bool) where
   pub record Clears (s : State) (left : List Item) (h : Graph) : Type 0 where
     pub now : Map ℕ
     pub state : s ≡ at now
     pub marks_are : h.marked ≡ marked
     pub are : AreCleared word_of objects links marked left h.objects now
 
-  pub clears_on : (without : State → ℕ → State) → ((now : Map ℕ) (word : ℕ) → without (at now) word ≡ at (remove now word)) → (s : State) (left : List Item) (item : Item) (h new : Graph) → Clears s (item ∷ left) h → (answer : Bool)
-      → IsHonest E word_of (Some Clear) item.word h answer new → Clears (without s item.word) left new
+  pub clears_on : (without : State → ℕ → State) → ((now : Map ℕ) (word target : ℕ) → get links word ≡ Some target → without (at now) word ≡ at (remove now word)) → (s : State) (left : List Item) (item : Item) (h new : Graph)
+      → Clears s (item ∷ left) h → (answer : Bool) → IsHonest E word_of value (Some Clear) item.word h answer new → Clears (without s item.word) left new
   clears_on without goes s left item h new p answer honest =
       let is = honest tt in
+      let link = dead_link word_of objects links marked item.word p.are.left_are.0 in
       record {
         now = remove p.now item.word;
-        state = ap (λ (t : State). without t item.word) p.state ∙ goes p.now item.word;
+        state = ap (λ (t : State). without t item.word) p.state ∙ goes p.now item.word link.0 link.1;
         marks_are = ap (λ (x : Graph). x.marked) is ∙ p.marks_are;
         are = subst (λ (m : Map Object). AreCleared word_of objects links marked left m (remove p.now item.word)) (sym (ap (λ (x : Graph). x.objects) is)) (clear_more word_of objects links marked left item h.objects p.now p.are);
       }
 
   module _ (targets : AreTargets objects links) where
-    pub clears_begin : (s : State) (kept items : List Item) (h : Graph) → Sifts E word_of (at links) objects marked (IsLink word_of objects links marked) (IsLinkAt word_of objects links marked) s kept [] h → items ≡ kept → Clears s items h
+    pub clears_begin : (s : State) (kept items : List Item) (h : Graph) → Sifts E word_of value (at links) objects marked (IsLink word_of objects links marked) (IsLinkAt word_of objects links marked) s kept [] h → items ≡ kept → Clears s items h
     clears_begin s kept items h p is = record {
       now = links;
       state = p.state;
@@ -79,16 +80,17 @@ module _ (E : Type 0) (word_of : ℕ → Option ℕ) (at : Map ℕ → State) (o
 
 -- ---- which links lie in marked objects
 
-module _ (E : Type 0) (word_of : ℕ → Option ℕ) (at : Map ℕ → State) (objects : Map Object) (links : Map ℕ) (marked : ℕ → Bool) where
+module _ (E : Type 0) (word_of : ℕ → Option ℕ) (value : Map Object → ℕ → Option ℕ) (at : Map ℕ → State) (objects : Map Object) (links : Map ℕ) (marked : ℕ → Bool) where
   pub record Holds (s : State) (left : List Item) (h : Graph) : Type 0 where
     pub now : Map ℕ
     pub state : s ≡ at now
     pub objects_are : h.objects ≡ objects
     pub marks_are : h.marked ≡ marked
+    pub left_are : Each (IsLink word_of objects links marked) left
     pub are : AreHeld word_of objects links marked left now
 
-  pub holds_on : (without : State → ℕ → State) → ((now : Map ℕ) (word : ℕ) → without (at now) word ≡ at (remove now word)) → (s : State) (left : List Item) (item : Item) (h new : Graph) → Holds s (item ∷ left) h → (answer : Bool)
-      → IsHonest E word_of (Some IsHolderMarked) item.word h answer new → Holds (cond answer s (without s item.word)) left new
+  pub holds_on : (without : State → ℕ → State) → ((now : Map ℕ) (word target : ℕ) → get links word ≡ Some target → without (at now) word ≡ at (remove now word)) → (s : State) (left : List Item) (item : Item) (h new : Graph)
+      → Holds s (item ∷ left) h → (answer : Bool) → IsHonest E word_of value (Some IsHolderMarked) item.word h answer new → Holds (cond answer s (without s item.word)) left new
   holds_on without goes s left item h new p answer honest =
       let is = honest tt in
       let told = is.0 ∙ (λ i. is_held word_of (p.objects_are i) (p.marks_are i) item.word) in
@@ -97,12 +99,13 @@ module _ (E : Type 0) (word_of : ℕ → Option ℕ) (at : Map ℕ → State) (o
         state = by answer;
         objects_are = ap (λ (x : Graph). x.objects) is.1 ∙ p.objects_are;
         marks_are = ap (λ (x : Graph). x.marked) is.1 ∙ p.marks_are;
+        left_are = p.left_are.1;
         are = hold_more word_of objects links marked left item p.now p.are answer told;
       }
     where
       by : (b : Bool) → cond b s (without s item.word) ≡ at (cond b p.now (remove p.now item.word))
       by true = p.state
-      by false = ap (λ (t : State). without t item.word) p.state ∙ goes p.now item.word
+      by false = ap (λ (t : State). without t item.word) p.state ∙ goes p.now item.word item.object p.left_are.0
 
   pub holds_begin : (s : State) (items : List Item) (h : Graph) → s ≡ at links → h.objects ≡ objects → h.marked ≡ marked → AreLinks links items → Holds s items h
   holds_begin s items h state objects_are marks_are are = record {
@@ -110,6 +113,7 @@ module _ (E : Type 0) (word_of : ℕ → Option ℕ) (at : Map ℕ → State) (o
     state = state;
     objects_are = objects_are;
     marks_are = marks_are;
+    left_are = links_each links items are;
     are = holding_begins word_of objects links marked items (links_all links items are);
   }
 

@@ -1,21 +1,25 @@
 -- How many regions a pass has still to process.
-use Rattle.std.proofs.Common.{◌≡◌, ◌∙◌, ◌≤◌, ◌<◌, ◌+◌, ◌*◌, ◌⊎◌, ℕ, zero, suc, min, List, [], ◌∷◌, length, take, drop, Option, Some, None, IsTrue, inl, inr, refl, ap, sym, subst, ⊎_elim, arith}
+use Rattle.std.proofs.Common.{◌≡◌, ◌∙◌, ◌≤◌, ◌<◌, ◌+◌, ◌*◌, ◌⊎◌, ℕ, zero, suc, min, Bool, true, false, cond, List, [], ◌∷◌, length, take, drop, Option, Some, None, IsTrue, inl, inr, refl, ap, sym, subst, ⊎_elim, arith}
 use Rattle.std.proofs.lemmas.List.{drop_all, length-drop, length-take}
 use Rattle.fz_finalizers.specs.States.{State}
 use Rattle.fz_machine.specs.declared.phase.Phase.{Phase}
-use Rattle.fz_machine.specs.declared.phase.Phase.TheVariants.{ShortCleanups, ShortTargets, ShortWords, Objects, LongCleanups}
-use Rattle.fz_machine.specs.Going.{begins_with, to_process, to_process_by}
+use Rattle.fz_machine.specs.declared.phase.Moment.TheVariants.{First, Led, Picked, Last}
+use Rattle.fz_machine.specs.declared.phase.Phase.TheVariants.{Keys, KeysAgain, Holders, Values, ShortCleanups, ShortTargets, ShortWords, ShortKeys, ShortKeyWords, Objects, LongCleanups}
+use Rattle.fz_machine.specs.Going.{begins_with, is_early, to_process, to_process_by}
 use Rattle.fz_machine.specs.Heard.{Opened, Marks, Others, Beside, HearsMarks, RegionQuestionsEnd}
 use Rattle.fz_machine.specs.Machines.{Machine, regions_left}
+use Rattle.fz_machine.specs.declared.item.Item.{Item}
 use Rattle.fz_machine.specs.Phases.{next_phase}
 use Rattle.fz_machine.specs.Regions.{Regions, items_in}
 
 -- fewer regions, fewer to process
 pub fewer_to_process : (phase : Option Phase) (all most left more : ℕ) → all ≤ most → left ≤ more → to_process phase all left ≤ to_process phase most more
-fewer_to_process (Some ShortCleanups) all most left more few less = few
-fewer_to_process (Some ShortTargets) all most left more few less = few
-fewer_to_process (Some ShortWords) all most left more few less = few
-fewer_to_process phase all most left more few less = less
+fewer_to_process None all most left more few less = less
+fewer_to_process (Some phase) all most left more few less = by (is_early phase)
+  where
+    by : (b : Bool) → cond b all left ≤ cond b most more
+    by true = few
+    by false = less
 
 pub through : (a b c d : ℕ) → a ≤ b → b ≤ c → c ≤ d → a ≤ d
 through a b c d ab bc cd = omega (arith, ab, bc, cd)
@@ -34,12 +38,34 @@ abbrev pub IsTurned : Phase → Option Phase → Type 0
 IsTurned phase None = Unit {0}
 IsTurned phase (Some next) = (all left more : ℕ) → left ≤ begins_with next all → to_process (Some next) all left ≤ to_process (Some phase) all more
 
-pub turned : (phase : Phase) → IsTurned phase (next_phase phase)
-turned ShortCleanups = λ all left more few. omega arith
-turned ShortTargets = λ all left more few. omega arith
-turned ShortWords = λ all left more few. few
-turned LongCleanups = tt
-turned phase = λ all left more few. omega (arith, few)
+pub turned : (phase : Phase) (kept : List Item) → IsTurned phase (next_phase phase kept)
+turned (Keys First) kept = λ all left more few. omega arith
+turned (KeysAgain First) kept = λ all left more few. omega arith
+turned (Holders First) kept = λ all left more few. omega arith
+turned (Values First) [] = λ all left more few. omega arith
+turned (Values First) (item ∷ kept) = λ all left more few. omega arith
+turned (Keys Led) kept = λ all left more few. omega (arith, few)
+turned (KeysAgain Led) kept = λ all left more few. omega (arith, few)
+turned (Holders Led) kept = λ all left more few. omega (arith, few)
+turned (Values Led) [] = λ all left more few. omega (arith, few)
+turned (Values Led) (item ∷ kept) = λ all left more few. omega (arith, few)
+turned (Keys Picked) kept = λ all left more few. omega (arith, few)
+turned (KeysAgain Picked) kept = λ all left more few. omega (arith, few)
+turned (Holders Picked) kept = λ all left more few. omega (arith, few)
+turned (Values Picked) [] = λ all left more few. omega (arith, few)
+turned (Values Picked) (item ∷ kept) = λ all left more few. omega (arith, few)
+turned (Keys Last) kept = λ all left more few. omega (arith, few)
+turned (KeysAgain Last) kept = λ all left more few. omega (arith, few)
+turned (Holders Last) kept = λ all left more few. omega (arith, few)
+turned (Values Last) [] = λ all left more few. omega (arith, few)
+turned (Values Last) (item ∷ kept) = λ all left more few. omega (arith, few)
+turned ShortCleanups kept = λ all left more few. omega arith
+turned ShortTargets kept = λ all left more few. omega arith
+turned ShortWords kept = λ all left more few. omega arith
+turned ShortKeys kept = λ all left more few. omega arith
+turned ShortKeyWords kept = λ all left more few. few
+turned LongCleanups kept = tt
+turned phase kept = λ all left more few. omega (arith, few)
 
 -- a question is asked
 pub asked_fewer : (old mid new : Regions) (count : ℕ) (last : Option Phase) (phase : Phase) (was : Option Phase) → was ≡ Some phase → new ≡ record mid { asked = count } → (left : ℕ) → to_process_by was old ≡ left → to_process_by last mid ≤ to_process_by (Some phase) old

@@ -10,6 +10,7 @@ use Rattle.fz_model.specs.declared.kinds.LinkKind.TheVariants.{Short, Long}
 use Rattle.fz_model.specs.State.{Map}
 use Rattle.fz_model.specs.Steps.{moved_to}
 use Rattle.fz_model.proofs.Maps.{get-remove_same, get-remove_other, get-insert_other}
+use Rattle.fz_pass.specs.Keyed.{moved}
 use Rattle.fz_finalizers.specs.Causes.{Causes}
 use Rattle.fz_finalizers.specs.Follows.{queued_cleanup, queued_object, queued_one, queued_attached}
 use Rattle.fz_finalizers.specs.Kinds.{is_late}
@@ -20,10 +21,10 @@ use Rattle.fz_finalizers.specs.declared.cleanups.Attached.{Attached}
 use Rattle.std.specs.Option.{option_map_or}
 use Rattle.fz_machine.specs.declared.item.Item.{Item}
 use Rattle.fz_machine.specs.declared.phase.Phase.{Phase}
-use Rattle.fz_machine.specs.declared.phase.Phase.TheVariants.{ShortCleanups, ShortTargets, ShortWords, Objects, Children, Again, Picks, LateAgain, LatePicks, LongTargets, LongWords, ShortHolders, LongHolders, LongCleanups}
+use Rattle.fz_machine.specs.declared.phase.Phase.TheVariants.{Keys, KeysAgain, Holders, Values, ShortCleanups, ShortTargets, ShortWords, ShortKeys, ShortKeyWords, Objects, Children, Again, Picks, LateAgain, LatePicks, LongTargets, LongWords, LongKeys, LongKeyWords, ShortHolders, LongHolders, ShortKeyHolders, LongKeyHolders, LongCleanups}
 use Rattle.fz_machine.specs.Causes.{first_of}
-use Rattle.fz_machine.specs.Going.{HasRoom, HasRoomToKeep, IsInOrder}
-use Rattle.fz_machine.specs.Phases.{after}
+use Rattle.fz_machine.specs.Going.{HaveRoom, HasRoomToKeep, IsInOrder}
+use Rattle.fz_machine.specs.Phases.{after, settles_in}
 use Rattle.fz_model.specs.Bits.{has_bit}
 use Rattle.fz_machine.specs.Regions.{Regions, AreNoted, IsNoted, items_in, place_in, region_of}
 use Rattle.fz_machine.specs.Steps.{Going, skip, steps}
@@ -86,9 +87,15 @@ module _ (P : Map Registration → Type 0) (less : (m : Map Registration) (objec
       by (Some c) = h
 
   pub after_keeps : (phase : Phase) (item : Item) (answer : Bool) (s : State) → P s.registrations → P (after phase item answer s).registrations
+  after_keeps (Keys moment) item answer s h = h
+  after_keeps (KeysAgain moment) item answer s h = h
+  after_keeps (Holders moment) item answer s h = h
+  after_keeps (Values moment) item answer s h = h
   after_keeps ShortCleanups item answer s h = cases answer s (queued_cleanup s item.word) h (cleaned s item.word h)
   after_keeps ShortTargets item answer s h = h
   after_keeps ShortWords item answer s h = h
+  after_keeps ShortKeys item answer s h = h
+  after_keeps ShortKeyWords item answer s h = h
   after_keeps Objects item answer s h = h
   after_keeps Children item answer s h = h
   after_keeps Again item answer s h = h
@@ -97,8 +104,12 @@ module _ (P : Map Registration → Type 0) (less : (m : Map Registration) (objec
   after_keeps LatePicks item answer s h = queued s item.object h
   after_keeps LongTargets item answer s h = h
   after_keeps LongWords item answer s h = h
+  after_keeps LongKeys item answer s h = h
+  after_keeps LongKeyWords item answer s h = h
   after_keeps ShortHolders item answer s h = cases answer s (after ShortHolders item false s) h h
   after_keeps LongHolders item answer s h = cases answer s (after LongHolders item false s) h h
+  after_keeps ShortKeyHolders item answer s h = cases answer s (after ShortKeyHolders item false s) h h
+  after_keeps LongKeyHolders item answer s h = cases answer s (after LongKeyHolders item false s) h h
   after_keeps LongCleanups item answer s h = cases answer s (queued_cleanup s item.word) h (cleaned s item.word h)
 
   pub skip_on : (phase : Phase) (g : Going) → P g.finalizers.registrations → P (skip phase g).finalizers.registrations
@@ -129,9 +140,12 @@ module _ (s : State) (walk : Walk) (regions : Regions) (phase : Option Phase) (a
   pub none_remain : regions.left ≡ []
   none_remain = ⊎_elim (λ (none : regions.left ≡ []). none) (λ (on : (phase ≡ Some Objects) × (asked ≡ 0) × IsTrue regions.complete). absurd (none-some Objects (sym idle ∙ on.0))) order.during
 
+  pub idle_rooms : HaveRoom false s walk
+  idle_rooms = subst (λ (o : Option Phase). HaveRoom (settles_in o) s walk) idle order.room
+
   -- a call takes registrations away, or leaves them
-  pub calm : (t : State) (other : Walk) → HasRoom t other.room → IsFewer s.registrations t.registrations → IsInOrder t other regions phase asked
-  calm t other room fewer = record { room = room; keeps = inl none_remain; noted = λ complete. noted_fewer s t regions.order fewer (order.noted complete); during = inl none_remain; by_regions = λ at all. absurd (none-some Objects (sym idle ∙ at)) }
+  pub calm : (t : State) (other : Walk) → HaveRoom false t other → IsFewer s.registrations t.registrations → IsInOrder t other regions phase asked
+  calm t other room fewer = record { room = subst (λ (o : Option Phase). HaveRoom (settles_in o) t other) (sym idle) room; room_off = λ on. absurd (true≢false (sym on ∙ ap settles_in idle)); keeps = inl none_remain; noted = λ complete. noted_fewer s t regions.order fewer (order.noted complete); during = inl none_remain; by_regions = λ at all. absurd (none-some Objects (sym idle ∙ at)) }
 
 unlinks : (s : State) (kind : LinkKind) (links : Map ℕ) → (with_links s kind links).registrations ≡ s.registrations
 unlinks s Short links = refl
@@ -145,6 +159,11 @@ pub moved_fewer : {A : Type 0} (s : State) (kind : LinkKind) (word to : ℕ) (t 
 moved_fewer s kind word to t (Ok x) same is = same_fewer s.registrations t.registrations (ap (λ (u : State). u.registrations) is ∙ unlinks s kind (moved_to (links_of s kind) word to (get (links_of s kind) word)))
 moved_fewer s kind word to t (Err r) same is = same_fewer s.registrations t.registrations (ap (λ (u : State). u.registrations) same)
 
+pub moved_rows_fewer : {A : Type 0} (s : State) (word to : ℕ) (t : State) (result : Result A Refused) → OnErr result (t ≡ s) → OnOk result (t ≡ record s { ephemerons = moved s.ephemerons word to })
+    → IsFewer s.registrations t.registrations
+moved_rows_fewer s word to t (Ok x) same is = same_fewer s.registrations t.registrations (ap (λ (u : State). u.registrations) is)
+moved_rows_fewer s word to t (Err r) same is = same_fewer s.registrations t.registrations (ap (λ (u : State). u.registrations) same)
+
 pub cleaned_fewer : (s t : State) → CleansAll s t → IsFewer s.registrations t.registrations
 cleaned_fewer s t (mid, short, long) = same_fewer s.registrations t.registrations (ap (λ (u : State). u.registrations) long.2 ∙ ap (λ (u : State). u.registrations) short.2)
 
@@ -154,8 +173,8 @@ module _ (s t : State) (registrations : t.registrations ≡ s.registrations) (la
   pub still_fits : HasRoomToKeep s walk regions → HasRoomToKeep t walk regions
   still_fits h = ⊎_elim (λ (none : regions.left ≡ []). inl none) (λ (on : (walk.left ≡ []) × (length walk.kept + length (items_in s regions.left) ≤ walk.room)). inr (on.0, subst (λ xs. length walk.kept + length xs ≤ walk.room) (sym (items_same s t registrations late regions.left)) on.1)) h
 
-  pub works_on : (phase : Option Phase) (asked : ℕ) → HasRoom t walk.room → IsInOrder s walk regions phase asked → IsInOrder t walk regions phase asked
-  works_on phase asked room order = record { room = room; keeps = still_fits order.keeps; noted = λ complete. noted_fewer s t regions.order (same_fewer s.registrations t.registrations registrations) (order.noted complete); during = order.during; by_regions = order.by_regions }
+  pub works_on : (phase : Option Phase) (asked : ℕ) → HaveRoom (settles_in phase) t walk → IsInOrder s walk regions phase asked → IsInOrder t walk regions phase asked
+  works_on phase asked room order = record { room = room; room_off = order.room_off; keeps = still_fits order.keeps; noted = λ complete. noted_fewer s t regions.order (same_fewer s.registrations t.registrations registrations) (order.noted complete); during = order.during; by_regions = order.by_regions }
 
 -- ---- a region is processed
 

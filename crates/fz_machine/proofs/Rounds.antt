@@ -1,6 +1,7 @@
--- What holds in each phase: first in the round over short cleanups, and then in a pass over what it leaves.
-use Rattle.std.proofs.Common.{◌≡◌, ◌⊎◌, ◌∷◌, ◌∙◌, [], ℕ, Bool, List, Option, Some, None, sym, subst, inl, inr, ⊎_elim}
+-- What holds in each phase once the marks are whole: first in the round over short cleanups, and then in a pass over what it leaves.
+use Rattle.std.proofs.Common.{◌≡◌, ◌⊎◌, ◌∷◌, ◌∙◌, [], ℕ, Bool, List, Option, Some, None, refl, sym, subst, inl, inr, ⊎_elim}
 use Rattle.fz_model.specs.declared.kinds.LinkKind.TheVariants.{Short}
+use Rattle.fz_model.specs.State.{Map, Object}
 use Rattle.fz_finalizers.specs.declared.cleanups.Attached.{Attached}
 use Rattle.fz_finalizers.specs.Cleanups.{AreDue, is_due}
 use Rattle.fz_finalizers.specs.States.{State}
@@ -8,10 +9,10 @@ use Rattle.fz_machine.specs.declared.item.Item.{Item}
 use Rattle.fz_machine.specs.declared.phase.Phase.{Phase}
 use Rattle.fz_machine.specs.declared.phase.Phase.TheVariants.{ShortCleanups, ShortTargets}
 use Rattle.fz_machine.specs.Graph.{Graph, IsHonest}
-use Rattle.fz_machine.specs.Items.{AreLinks}
-use Rattle.fz_machine.specs.Phases.{Lists, after, asks, keeps, next_phase, subject}
+use Rattle.fz_machine.specs.Items.{AreCleanups, AreLinks}
+use Rattle.fz_machine.specs.Phases.{Lists, after, aside_in, asks, given, keeps, next_phase, off_in, puts_off, subject}
 use Rattle.fz_machine.proofs.Begun.{HasBegun}
-use Rattle.fz_machine.proofs.Cleaning.{Cleaning, after_due, cleaning_all, cleaning_on}
+use Rattle.fz_machine.proofs.Cleaning.{Cleaning, after_due, cleaning_all, cleaning_begins, cleaning_on}
 use Rattle.fz_machine.proofs.DeadWords.{IsLink, IsLinkAt}
 use Rattle.fz_machine.proofs.Entered.{links_all, links_each}
 use Rattle.fz_machine.proofs.Keeping as keeping
@@ -20,71 +21,73 @@ use Rattle.fz_machine.proofs.Phasing.{kept_on, sifts_begin}
 use Rattle.fz_machine.proofs.Stated.{as_begun}
 use Rattle.fz_machine.proofs.Turning as turning
 
-module _ (E : Type 0) (word_of : ℕ → Option ℕ) (b : State) (before : Graph) where
+module _ (E : Type 0) (word_of : ℕ → Option ℕ) (value : Map Object → ℕ → Option ℕ) (b : State) (before : Graph) where
   abbrev pub AreShort : List (ℕ × Attached) → Type 0
   AreShort = AreDue (is_due Short before.marked) b.cleanups
 
   -- the first round
   abbrev pub IsFirst : Phase → State → List Item → Graph → Type 0
-  IsFirst phase s left h = (phase ≡ ShortCleanups) × Cleaning E word_of Short b before.objects before.marked s left h
+  IsFirst phase s left h = (phase ≡ ShortCleanups) × Cleaning E word_of value Short b before.objects before.marked s left h
 
   -- the pass behind it, over what it leaves
-  abbrev pub IsBehind : Phase → State → List Item → List Item → Graph → Type 0
-  IsBehind phase s kept left h = (due : List (ℕ × Attached)) × AreShort due × phased.IsIn E word_of (after_due b due) before phase s kept left h
+  abbrev pub IsBehind : Phase → State → List Item → List Item → List Item → List Item → Graph → Type 0
+  IsBehind phase s kept left aside off h = (due : List (ℕ × Attached)) × AreShort due × phased.IsIn E word_of value (after_due b due) before phase s kept left aside off h
 
-  abbrev pub IsIn : Phase → State → List Item → List Item → Graph → Type 0
-  IsIn phase s kept left h = IsFirst phase s left h ⊎ IsBehind phase s kept left h
+  abbrev pub IsIn : Phase → State → List Item → List Item → List Item → List Item → Graph → Type 0
+  IsIn phase s kept left aside off h = IsFirst phase s left h ⊎ IsBehind phase s kept left aside off h
 
   abbrev pub IsAtEnd : State → Graph → Type 0
-  IsAtEnd s h = (due : List (ℕ × Attached)) × AreShort due × phased.IsAtEnd E word_of (after_due b due) before s h
+  IsAtEnd s h = (due : List (ℕ × Attached)) × AreShort due × phased.IsAtEnd E word_of value (after_due b due) before s h
 
   -- the next phase, whatever it lists, or the end
-  abbrev pub IsAfter : Option Phase → State → List Item → Graph → Type 0
-  IsAfter None s kept h = IsAtEnd s h
-  IsAfter (Some p) s kept h = (items : List Item) → Lists p s kept items → IsIn p s [] items h
-
-  -- where it asks, or at the end
-  abbrev pub IsWhere : Option Phase → State → List Item → List Item → Graph → Type 0
-  IsWhere None s kept left h = IsAtEnd s h
-  IsWhere (Some p) s kept left h = IsIn p s kept left h
+  abbrev pub IsAfter : Option Phase → State → List Item → List Item → List Item → Graph → Type 0
+  IsAfter None s kept aside off h = IsAtEnd s h
+  IsAfter (Some p) s kept aside off h = (items : List Item) → Lists p s (given p kept aside off) items → IsIn p s [] items (aside_in p kept aside) (off_in p off) h
 
   module _ (begin : HasBegun word_of b before) where
     pub begin_behind : (due : List (ℕ × Attached)) → HasBegun word_of (after_due b due) before
     begin_behind due = record {
-      may = record { registered = begin.registered; short = begin.short; long = begin.long; zero = begin.zero; closed = begin.closed; births = begin.births; starts = begin.starts; apart = begin.apart };
+      may = record { registered = begin.registered; short = begin.short; long = begin.long; short_keys = begin.short_keys; long_keys = begin.long_keys; zero = begin.zero; closed = begin.closed; births = begin.births; starts = begin.starts; apart = begin.apart };
       flags = begin.flags;
+      single = begin.single;
     }
 
-    pub keep : (phase : Phase) (s : State) (kept left : List Item) (item : Item) (h new : Graph) → IsIn phase s kept (item ∷ left) h → (answer : Bool) → IsHonest E word_of (asks phase item) (subject phase item) h answer new
-        → IsIn phase (after phase item answer s) (kept_on (keeps phase item answer) kept item) left new
-    keep phase s kept left item h new p answer honest = ⊎_elim first behind p
+    pub keep : (phase : Phase) (s : State) (kept left aside off : List Item) (item : Item) (h new : Graph) → IsIn phase s kept (item ∷ left) aside off h → (answer : Bool)
+        → IsHonest E word_of value (asks phase item) (subject phase item) h answer new
+        → IsIn phase (after phase item answer s) (kept_on (keeps phase item answer) kept item) left aside (kept_on (puts_off phase answer) off item) new
+    keep phase s kept left aside off item h new p answer honest = ⊎_elim first behind p
       where
-        first : IsFirst phase s (item ∷ left) h → IsIn phase (after phase item answer s) (kept_on (keeps phase item answer) kept item) left new
+        first : IsFirst phase s (item ∷ left) h → IsIn phase (after phase item answer s) (kept_on (keeps phase item answer) kept item) left aside (kept_on (puts_off phase answer) off item) new
         first (is, c) =
-            let told = subst (λ (q : Phase). IsHonest E word_of (asks q item) (subject q item) h answer new) is honest in
-            inl (is, subst (λ (q : Phase). Cleaning E word_of Short b before.objects before.marked (after q item answer s) left new) (sym is) (cleaning_on E word_of Short b before.objects before.marked s left item h new c answer told))
+            let told = subst (λ (q : Phase). IsHonest E word_of value (asks q item) (subject q item) h answer new) is honest in
+            inl (is, subst (λ (q : Phase). Cleaning E word_of value Short b before.objects before.marked (after q item answer s) left new) (sym is) (cleaning_on E word_of value Short b before.objects before.marked s left item h new c answer told))
 
-        behind : IsBehind phase s kept (item ∷ left) h → IsIn phase (after phase item answer s) (kept_on (keeps phase item answer) kept item) left new
-        behind (due, are, q) = inr (due, are, keeping.keep E word_of (after_due b due) before (begin_behind due) phase s kept left item h new q answer honest)
+        behind : IsBehind phase s kept (item ∷ left) aside off h → IsIn phase (after phase item answer s) (kept_on (keeps phase item answer) kept item) left aside (kept_on (puts_off phase answer) off item) new
+        behind (due, are, q) = inr (due, are, keeping.keep E word_of value (after_due b due) before (begin_behind due) phase s kept left aside off item h new q answer honest)
 
     -- behind the first round short links are asked about
-    links_begin : (s : State) (h : Graph) → Cleaning E word_of Short b before.objects before.marked s [] h → (items : List Item) → AreLinks s.short items → IsIn ShortTargets s [] items h
-    links_begin s h c items are =
-        let cleans = cleaning_all E word_of Short b before.objects before.marked s h c in
+    links_begin : (s : State) (h : Graph) → Cleaning E word_of value Short b before.objects before.marked s [] h → (items : List Item) → AreLinks s.short items → (aside off : List Item) → IsIn ShortTargets s [] items aside off h
+    links_begin s h c items are aside off =
+        let cleans = cleaning_all E word_of value Short b before.objects before.marked s h c in
         let n = after_due b cleans.0 in
         let listed : AreLinks b.short items = subst (λ (t : State). AreLinks t.short items) cleans.2 are in
         inr (
           cleans.0,
           cleans.1,
-          sifts_begin E word_of _ before.objects before.marked (IsLink word_of before.objects b.short before.marked) (IsLinkAt word_of before.objects b.short before.marked) s items h
+          sifts_begin E word_of value _ before.objects before.marked (IsLink word_of before.objects b.short before.marked) (IsLinkAt word_of before.objects b.short before.marked) s items h
               (cleans.2 ∙ as_begun n) c.objects_are c.marks_are (links_each b.short items listed) (λ object word here off. links_all b.short items listed object word here),
         )
 
-    behind_on : (due : List (ℕ × Attached)) → AreShort due → (next : Option Phase) (s : State) (kept : List Item) (h : Graph) → phased.IsAfter E word_of (after_due b due) before next s kept h → IsAfter next s kept h
-    behind_on due are None s kept h end = (due, are, end)
-    behind_on due are (Some p) s kept h on = λ items lists. inr (due, are, on items lists)
+    behind_on : (due : List (ℕ × Attached)) → AreShort due → (next : Option Phase) (s : State) (kept aside off : List Item) (h : Graph) → phased.IsAfter E word_of value (after_due b due) before next s kept aside off h → IsAfter next s kept aside off h
+    behind_on due are None s kept aside off h end = (due, are, end)
+    behind_on due are (Some p) s kept aside off h on = λ items lists. inr (due, are, on items lists)
 
-    pub turn : (phase : Phase) (s : State) (kept : List Item) (h : Graph) → IsIn phase s kept [] h → IsAfter (next_phase phase) s kept h
-    turn phase s kept h p =
-        ⊎_elim (λ (q : IsFirst phase s [] h). subst (λ (o : Phase). IsAfter (next_phase o) s kept h) (sym q.0) (links_begin s h q.1))
-        (λ (q : IsBehind phase s kept [] h). behind_on q.0 q.1 (next_phase phase) s kept h (turning.turn E word_of (after_due b q.0) before (begin_behind q.0) phase s kept h q.2)) p
+    pub turn : (phase : Phase) (s : State) (kept aside off : List Item) (h : Graph) → IsIn phase s kept [] aside off h → IsAfter (next_phase phase kept) s kept aside off h
+    turn phase s kept aside off h p =
+        ⊎_elim (λ (q : IsFirst phase s [] h). subst (λ (o : Phase). IsAfter (next_phase o kept) s kept aside off h) (sym q.0) (λ items are. links_begin s h q.1 items are aside off))
+        (λ (q : IsBehind phase s kept [] aside off h). behind_on q.0 q.1 (next_phase phase kept) s kept aside off h (turning.turn E word_of value (after_due b q.0) before (begin_behind q.0) phase s kept aside off h q.2)) p
+
+    -- the round begins
+    pub cleanups_begin : (s : State) (items : List Item) (h : Graph) → s ≡ b → h.objects ≡ before.objects → h.marked ≡ before.marked → AreCleanups Short s.cleanups items → (aside off : List Item) → IsIn ShortCleanups s [] items aside off h
+    cleanups_begin s items h state objects_are marks_are are aside off =
+        inl (refl, cleaning_begins E word_of value Short b before.objects before.marked s items h state objects_are marks_are (subst (λ (t : State). AreCleanups Short t.cleanups items) state are))

@@ -14,7 +14,7 @@ use Rattle.fz_machine.proofs.Stepping.{skip_here}
 
 -- without regions the list is the phase's own
 pub no_regions : (f : View) (walk : Walk) (regions : Regions) → regions.left ≡ [] → going_by f walk regions ≡ going f walk
-no_regions f walk regions none = ap (λ rs. record { finalizers = f.state; kept = walk.kept; left = items_in f.state rs ++ walk.left }) none
+no_regions f walk regions none = ap (λ rs. record { finalizers = f.state; kept = walk.kept; left = items_in f.state rs ++ walk.left; aside = walk.aside; off = walk.off }) none
 
 pub none_at : (rs : List (ℕ × ℕ)) → is_some (slice_get rs 0) ≡ false → rs ≡ []
 none_at [] h = refl
@@ -54,7 +54,7 @@ module _ (f : View) (walk : Walk) (old new : Regions) (phase : Phase) (order : I
 
     pub nothing_skipped : going_by f walk new ≡ skip phase (going_by f walk old)
     nothing_skipped =
-        let before : going_by f walk new ≡ going_by f walk old = ap (λ xs. record { finalizers = f.state; kept = walk.kept; left = xs ++ walk.left }) same in
+        let before : going_by f walk new ≡ going_by f walk old = ap (λ xs. record { finalizers = f.state; kept = walk.kept; left = xs ++ walk.left; aside = walk.aside; off = walk.off }) same in
         let asked : is_some (asks phase here.0) ≡ true = ap (λ p. is_some (asks p here.0)) objects.0 in
         sym (skip_here phase (going_by f walk new) here.0 here.1 here.2 asked) ∙ ap (skip phase) before
 
@@ -64,6 +64,7 @@ module _ (f : View) (walk : Walk) (old new : Regions) (phase : Phase) (order : I
     pub in_order : IsInOrder f.state walk new (Some phase) 0
     in_order = record {
       room = order.room;
+      room_off = order.room_off;
       keeps = ⊎_elim
           (λ (none : old.left ≡ []). absurd (let long = ap length same in let no = ap (λ rs. length (items_in f.state rs)) none in let many = remain in omega (arith, long, no, many)))
           (λ (on : (walk.left ≡ []) × (length walk.kept + length (items_in f.state old.left) ≤ walk.room)). inr (on.0, subst (λ xs. length walk.kept + length xs ≤ walk.room) (sym same) on.1))
@@ -76,4 +77,4 @@ module _ (f : View) (walk : Walk) (old new : Regions) (phase : Phase) (order : I
   -- no region remains
   module _ (none : new.left ≡ []) where
     pub by_itself : going_by f walk old ≡ going f walk
-    by_itself = ap (λ xs. record { finalizers = f.state; kept = walk.kept; left = xs ++ walk.left }) (sym same ∙ ap (items_in f.state) none)
+    by_itself = ap (λ xs. record { finalizers = f.state; kept = walk.kept; left = xs ++ walk.left; aside = walk.aside; off = walk.off }) (sym same ∙ ap (items_in f.state) none)

@@ -11,6 +11,7 @@ use Rattle.fz_model.specs.Pass.{entry_of, entries_of}
 use Rattle.fz_model.proofs.Sound.{length-entries_of}
 use Rattle.fz_table.specs.Tabled.{Content, Set}
 use Rattle.fz_pass.specs.All.{unknown}
+use Rattle.fz_pass.specs.Holds.{Ephemerons}
 use Rattle.fz_pass.specs.Picking.{pick_of}
 use Rattle.fz_pass.proofs.Gathering.{entries_of-append}
 use Rattle.fz_finalizers.specs.Follows.{queued_object, queued_one}
@@ -26,6 +27,10 @@ entries_more pass queue picks p =
     let number : length (queue ++ so_far) ≡ length queue + length picks = omega (arith, grown, count) in
     ap (λ n. (queue ++ so_far) ++ entry_of pass n p ∷ []) number ∙ append_assoc queue so_far (entry_of pass (length queue + length picks) p ∷ [])
     ∙ ap (λ es. queue ++ es) (sym (entries_of-append pass (length queue) picks (p ∷ [])))
+
+-- with other ephemerons
+abbrev pub with_keys : State → Ephemerons → State
+with_keys b ephemerons = record b { ephemerons = ephemerons }
 
 module _ (b : State) where
   abbrev pub state_with : Map ℕ → Map ℕ → Map Registration → Set → List Pick → State

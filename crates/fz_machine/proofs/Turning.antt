@@ -1,40 +1,47 @@
 -- From phase to phase, and to the end.
-use Rattle.std.proofs.Common.{◌≡◌, ◌++◌, ◌∙◌, [], ℕ, Bool, true, false, not, List, length, refl, sym, ap, subst, inl, inr, ⊎_elim, is_some, append-nil, IsTrue, Option}
+use Rattle.std.proofs.Common.{◌≡◌, ◌++◌, ◌∷◌, ◌∙◌, [], ℕ, Bool, true, false, not, List, length, refl, sym, ap, subst, inl, inr, ⊎_elim, is_some, append-nil, IsTrue, Option}
 use Rattle.std.specs.FinMap.{retain_keys}
 use Rattle.std.specs.FinSet.{contains}
 use Rattle.fz_model.specs.State.{Map, Object}
 use Rattle.fz_model.specs.Memory.{points}
 use Rattle.fz_model.specs.Pass.{is_dead}
 use Rattle.fz_model.proofs.SeenKept.{points-filled}
-use Rattle.fz_pass.specs.Queued.{QueuesTiers}
-use Rattle.fz_pass.specs.Marks.{IsClosed}
+use Rattle.fz_pass.specs.Holds.{Ephemerons, IsOfKey}
+use Rattle.fz_pass.specs.Queued.{MarksLed}
+use Rattle.fz_pass.specs.QueuedWhole.{QueuesWhole}
+use Rattle.fz_pass.specs.Marks.{IsClosed, with_holders, with_targets}
 use Rattle.fz_pass.specs.Places.{placed, links_held}
-use Rattle.fz_pass.proofs.Flags.{decided}
-use Rattle.fz_pass.proofs.Passed.{closed_still, dropped_twice, pointed}
+use Rattle.fz_pass.proofs.Holding.{whole_closed}
+use Rattle.fz_pass.proofs.Passed.{closed_still, dropped_twice}
 use Rattle.fz_pass.proofs.Tiers.{flag_of_round, unskipped_off}
+use Rattle.fz_pass.proofs.Wholes.{decided}
 use Rattle.fz_model.specs.declared.kinds.LinkKind.TheVariants.{Long}
 use Rattle.fz_finalizers.specs.Passed.{parts_in, parts_left_in}
-use Rattle.fz_finalizers.specs.Ready.{Decides}
+use Rattle.fz_finalizers.specs.Ready.{DecidesKeyed}
 use Rattle.fz_finalizers.specs.States.{State}
 use Rattle.fz_machine.specs.declared.item.Item.{Item}
+use Rattle.fz_machine.specs.declared.phase.Moment.{Moment}
+use Rattle.fz_machine.specs.declared.phase.Moment.TheVariants as moments
 use Rattle.fz_machine.specs.declared.phase.Phase.{Phase}
-use Rattle.fz_machine.specs.declared.phase.Phase.TheVariants.{ShortCleanups, ShortTargets, ShortWords, Objects, Children, Again, Picks, LateAgain, LatePicks, LongTargets, LongWords, ShortHolders, LongHolders, LongCleanups}
+use Rattle.fz_machine.specs.declared.phase.Phase.TheVariants.{Keys, KeysAgain, Holders, Values, ShortCleanups, ShortTargets, ShortWords, ShortKeys, ShortKeyWords, Objects, Children, Again, Picks, LateAgain, LatePicks, LongTargets, LongWords, LongKeys, LongKeyWords, ShortHolders, LongHolders, ShortKeyHolders, LongKeyHolders, LongCleanups}
 use Rattle.fz_machine.specs.Graph.{Graph}
-use Rattle.fz_machine.specs.Items.{AreCleanups, AreInTurn, AreLinks, AreObjects, place_of}
+use Rattle.fz_machine.specs.Items.{AreCleanups, AreEphemerons, AreInTurn, AreLinks, AreObjects, place_of}
 use Rattle.fz_machine.specs.Phases.{next_phase}
 use Rattle.fz_machine.proofs.Among.{AreInOrder, Each, OneOf, each_as, each_permuted, one_as, one_permuted, order_from}
-use Rattle.fz_machine.proofs.Begun.{HasBegun, closed, long_targets, normal, not_before, registered, was_there}
+use Rattle.fz_machine.proofs.Begun.{HasBegun, closed, found_led, led_picked, long_key_targets, long_targets, normal, not_before, registered, short_key_targets, still_nowhere, was_there}
 use Rattle.fz_machine.proofs.Cleaning.{cleaning_all, cleaning_begins}
 use Rattle.fz_machine.proofs.Chosen.{choosing_begins, chosen_all}
 use Rattle.fz_machine.proofs.DeadWords.{IsLink, IsLinkAt}
 use Rattle.fz_machine.proofs.Entered.{IsEitherAt, either_at, IsLate, IsLateAt, IsOfEither, links_all, links_each, objects_all, objects_each}
 use Rattle.fz_machine.proofs.Led.{leading_begins, led_all}
-use Rattle.fz_machine.proofs.Phased.{IsAfter, IsAtEnd, IsIn, IsUnfound, Leading, LeadsOn, Picked, PickedBoth, PicksLate, PicksOn, after_picks, clear, last, long_held, long_left, passed, short_held, short_left}
+use Rattle.fz_machine.proofs.Phased.{IsAfter, IsAtEnd, IsIn, IsSettling, IsUnfound, Leading, LeadsOn, Picked, PickedBoth, PicksLate, PicksOn, SettlesLed, SettlesPicked, SettlesLast, after_picks, begun_with, clear, cleared_links, judged, keys_held, keys_left, last, last_links, long_held, long_keys_held, long_keys_left, long_left, passed, picked_with, short_held, short_left}
 use Rattle.fz_machine.proofs.Phasing.{Sifts, Clears, clears_all, clears_begin, holds_all, holds_begin, sifts_begin}
 use Rattle.fz_machine.proofs.Sifting.{IsAt, sifted}
-use Rattle.fz_machine.proofs.Stated.{state_with, tabled}
+use Rattle.fz_machine.proofs.Stated.{tabled}
+use Rattle.fz_machine.proofs.Waiting as waiting
+use Rattle.fz_machine.proofs.Waiting.{is_settled, looks_begin, to_holders, to_keys, to_values}
 
-module _ (E : Type 0) (word_of : ℕ → Option ℕ) (b : State) (before : Graph) (begin : HasBegun word_of b before) where
+module _ (E : Type 0) (word_of : ℕ → Option ℕ) (value : Map Object → ℕ → Option ℕ) (b : State) (before : Graph) (begin : HasBegun word_of b before) where
   abbrev Either : Item → Type 0
   Either = IsOfEither b.registrations b.late
 
@@ -47,43 +54,82 @@ module _ (E : Type 0) (word_of : ℕ → Option ℕ) (b : State) (before : Graph
   abbrev LateAt : ℕ → ℕ → Type 0
   LateAt = IsLateAt b.registrations b.late
 
+  abbrev begun : Map Object
+  begun = cleared_links E word_of value b before
+
   abbrev clearly : Map Object
-  clearly = clear E word_of b before
+  clearly = clear E word_of value b before
 
   abbrev shorts : Map ℕ
-  shorts = short_left E word_of b before
+  shorts = short_left E word_of value b before
 
-  to_objects : (s : State) (h : Graph) → Clears E word_of (λ links. state_with b links b.long b.registrations b.late []) before.objects b.short before.marked s [] h
-      → (items : List Item) → AreObjects s.registrations s.late items → IsIn E word_of b before Objects s [] items h
-  to_objects s h p items are =
-      let all = clears_all E word_of (λ links. state_with b links b.long b.registrations b.late []) before.objects b.short before.marked begin.short begin.apart s h p in
+  abbrev keys : Map ℕ
+  keys = keys_left E word_of value b before
+
+  abbrev with_links : Map ℕ → Map ℕ → State
+  with_links = begun_with E word_of value b before
+
+  abbrev rows : Ephemerons
+  rows = judged E word_of value b before
+
+  abbrev At : Phase → State → List Item → List Item → List Item → List Item → Graph → Type 0
+  At = IsIn E word_of value b before
+
+  -- ---- to registered objects
+
+  to_short_keys : (s : State) (aside off : List Item) (h : Graph) → Clears E word_of value (λ links. with_links links b.ephemerons.short) before.objects b.short before.marked s [] h → (items : List Item) → AreLinks s.ephemerons.short items → At ShortKeys s [] items aside off h
+  to_short_keys s aside off h p items are =
+      let all = clears_all E word_of value (λ links. with_links links b.ephemerons.short) before.objects b.short before.marked begin.short begin.apart s h p in
+      let listed : AreLinks b.ephemerons.short items = subst (λ (t : State). AreLinks t.ephemerons.short items) all.0 are in
+      sifts_begin E word_of value _ begun before.marked (IsLink word_of begun b.ephemerons.short before.marked) (IsLinkAt word_of begun b.ephemerons.short before.marked) s items h all.0 all.1 all.2
+      (links_each b.ephemerons.short items listed) (λ object word here off. links_all b.ephemerons.short items listed object word here)
+
+  to_objects : (s : State) (aside off : List Item) (h : Graph) → Clears E word_of value (λ keys. with_links shorts keys) begun b.ephemerons.short before.marked s [] h → (items : List Item) → AreObjects s.registrations s.late items → At Objects s [] items aside off h
+  to_objects s aside off h p items are =
+      let all = clears_all E word_of value (λ keys. with_links shorts keys) begun b.ephemerons.short before.marked (short_key_targets E word_of value b before begin) begin.apart s h p in
       let listed : AreObjects b.registrations b.late items = subst (λ (t : State). AreObjects t.registrations t.late items) p.state are in
-      sifts_begin E word_of _ clearly before.marked Either EitherAt s items h all.0 all.1 all.2 (objects_each b.registrations b.late items listed) (λ object word at off. objects_all b.registrations b.late items listed object word at)
+      sifts_begin E word_of value _ clearly before.marked Either EitherAt s items h all.0 all.1 all.2 (objects_each b.registrations b.late items listed) (λ object word at off. objects_all b.registrations b.late items listed object word at)
 
-  to_children : (s : State) (kept : List Item) (h : Graph) → Sifts E word_of (state_with b shorts b.long b.registrations b.late []) clearly before.marked Either EitherAt s kept [] h
-      → (items : List Item) → items ≡ kept → LeadsOn E word_of b before s [] items h
+  to_children : (s : State) (kept : List Item) (h : Graph) → Sifts E word_of value (with_links shorts keys) clearly before.marked Either EitherAt s kept [] h → (items : List Item) → items ≡ kept → LeadsOn E word_of value b before s [] items h
   to_children s kept h p items is =
       let all = λ (object word : ℕ) (at : EitherAt object word) (off : before.marked object ≡ false). subst (OneOf (IsAt object word)) (sym is) (sifted before.marked Either EitherAt kept p.sifted object word at off) in
       record {
         state = p.state;
-        are = leading_begins E word_of clearly b.registrations b.late before.marked items h p.objects_are p.marks_are (closed E word_of b before begin)
+        are = leading_begins E word_of value clearly b.registrations b.late before.marked items h p.objects_are p.marks_are (closed E word_of value b before begin)
             (λ object here off. one_as (IsAt object 0) (λ (i : Item). i.object ≡ object) (λ i at. at.0) items (all object 0 (either_at b.registrations b.late object here) off));
         kept_are = tt;
-        left_are = subst (Each (IsUnfound E word_of b before)) (sym is) p.sifted.kept_are;
+        left_are = subst (Each (IsUnfound E word_of value b before)) (sym is) p.sifted.kept_are;
         rest = λ object word at off. inr (all object word at off);
       }
 
-  to_again : (s : State) (kept : List Item) (h : Graph) → LeadsOn E word_of b before s kept [] h → (items : List Item) → items ≡ kept → IsIn E word_of b before Again s [] items h
-  to_again s kept h p items is =
-      let leading : Leading E word_of b before = record { led = h.marked; marks = led_all E word_of clearly b.registrations b.late before.marked (registered E word_of b before begin) (normal E word_of b before begin) h p.are } in (
-        leading,
-        sifts_begin E word_of _ clearly h.marked Either EitherAt s items h p.state p.are.objects refl
-            (subst (Each Either) (sym is) (each_as (IsUnfound E word_of b before) Either (λ i x. x.0) kept p.kept_are))
-            (λ object word at off. subst (OneOf (IsAt object word)) (sym is) (⊎_elim (λ k. k) (λ k. absurd k) (p.rest object word at (not_before E word_of b before begin before.marked h.marked p.are.least object off)))),
+  -- ---- to picks
+
+  to_led : (s : State) (kept : List Item) (h : Graph) → LeadsOn E word_of value b before s kept [] h → (items : List Item) → AreEphemerons s.ephemerons items → At (Keys moments.Led) s [] items kept [] h
+  to_led s kept h p items are =
+      let m : MarksLed E clearly before.marked h.marked b.registrations = led_all E word_of value clearly b.registrations b.late before.marked (registered E word_of value b before begin) (normal E word_of value b before begin) h p.are in (
+        record {
+          marked = h.marked;
+          marks = m;
+          state = p.state;
+          aside_are = each_as (IsUnfound E word_of value b before) Either (λ i x. x.0) kept p.kept_are;
+          rest = λ object word at off. ⊎_elim (λ k. k) (λ k. absurd k) (p.rest object word at off);
+        },
+        looks_begin E word_of value clearly rows h.marked items h p.are.objects refl m.closed (subst (λ (t : State). AreEphemerons t.ephemerons items) p.state are),
       )
 
-  to_picks : (s : State) (kept : List Item) (h : Graph) (l : Leading E word_of b before) → Sifts E word_of (state_with b shorts b.long b.registrations b.late []) clearly l.led Either EitherAt s kept [] h
-      → (items : List Item) → AreInTurn kept items → PicksOn E word_of b before s [] items h
+  to_again : (s : State) (aside off more_aside more_off : List Item) (h : Graph) → (w : SettlesLed E word_of value b before s aside) → waiting.Marking E word_of value clearly rows w.marked [] [] off h → (items : List Item) → items ≡ aside → At Again s [] items more_aside more_off h
+  to_again s aside off more_aside more_off h w p items is =
+      let l : Leading E word_of value b before = record { first_led = w.marked; led = h.marked; marks = w.marks; settled = is_settled E word_of value clearly rows w.marked off h p } in (
+        l,
+        sifts_begin E word_of value _ clearly h.marked Either EitherAt s items h w.state p.settling.objects_are refl (subst (Each Either) (sym is) w.aside_are)
+            (λ object word at un. subst (OneOf (IsAt object word)) (sym is) (w.rest object word at (not_before E word_of value b before begin before.marked h.marked (found_led E word_of value b before begin l) object un))),
+      )
+
+  led_closed : (l : Leading E word_of value b before) → IsClosed clearly l.led
+  led_closed l = whole_closed word_of value clearly (IsOfKey rows) l.led l.settled.whole
+
+  to_picks : (s : State) (kept : List Item) (h : Graph) (l : Leading E word_of value b before) → Sifts E word_of value (with_links shorts keys) clearly l.led Either EitherAt s kept [] h
+      → (items : List Item) → AreInTurn kept items → PicksOn E word_of value b before s [] items h
   to_picks s kept h l p items turned =
       let all = λ (object word : ℕ) (at : EitherAt object word) (off : l.led object ≡ false). one_permuted (IsAt object word) kept items turned.0 (sifted l.led Either EitherAt kept p.sifted object word at off) in
       record {
@@ -91,7 +137,7 @@ module _ (E : Type 0) (word_of : ℕ → Option ℕ) (b : State) (before : Graph
         now = tabled b;
         picks = [];
         state = p.state;
-        are = choosing_begins E clearly (tabled b) l.led false (contains b.late) 0 items h p.objects_are p.marks_are l.marks.closed
+        are = choosing_begins E clearly (tabled b) l.led false (contains b.late) 0 items h p.objects_are p.marks_are (led_closed l)
             (λ a r here off. one_as (IsAt a 0) (λ (i : Item). i.object ≡ a) (λ i at. at.0) items (all a 0 (either_at b.registrations b.late a (ap is_some here)) (unskipped_off false (contains b.late) l.led a (ap not off))));
         kept_are = tt;
         left_are = each_permuted (λ i. Either i × (l.led i.object ≡ false)) kept items turned.0 p.sifted.kept_are;
@@ -99,109 +145,244 @@ module _ (E : Type 0) (word_of : ℕ → Option ℕ) (b : State) (before : Graph
         ordered = order_from place_of items turned.1;
       }
 
-  to_late_again : (s : State) (kept : List Item) (h : Graph) → PicksOn E word_of b before s kept [] h → (items : List Item) → items ≡ kept → IsIn E word_of b before LateAgain s [] items h
-  to_late_again s kept h p items is =
-      let all = chosen_all E clearly (tabled b) p.leading.led false (contains b.late) 0 p.now p.picks h p.are in
-      let c : Picked E word_of b before = record { leading = p.leading; table = p.now; picks = p.picks; mid = h.marked; are = all.0; marks = all.1 } in (
-        c,
-        sifts_begin E word_of _ clearly h.marked Late LateAt s items h p.state p.are.objects refl
-            (subst (Each Late) (sym is) (each_as (λ i. Late i × (p.leading.led i.object ≡ false)) Late (λ i x. x.0) kept p.kept_are))
-            (λ object word at off. subst (OneOf (IsAt object word)) (sym is) (⊎_elim (λ k. k) (λ k. absurd k) (p.rest object word at (not_before E word_of b before begin p.leading.led h.marked p.are.least object off)))),
-        subst (AreInOrder place_of) (append-nil kept ∙ sym is) p.ordered,
+  -- ---- to picks of late ones
+
+  to_picked : (s : State) (kept : List Item) (h : Graph) → PicksOn E word_of value b before s kept [] h → (items : List Item) → AreEphemerons s.ephemerons items → At (Keys moments.Picked) s [] items kept [] h
+  to_picked s kept h p items are =
+      let all = chosen_all E clearly (tabled b) p.leading.led false (contains b.late) 0 p.now p.picks h p.are in (
+        record {
+          leading = p.leading;
+          table = p.now;
+          picks = p.picks;
+          marked = h.marked;
+          are = all.0;
+          marks = all.1;
+          state = p.state;
+          aside_are = each_as (λ i. Late i × (p.leading.led i.object ≡ false)) Late (λ i x. x.0) kept p.kept_are;
+          rest = λ object word at off. ⊎_elim (λ k. k) (λ k. absurd k) (p.rest object word at off);
+          ordered = subst (AreInOrder place_of) (append-nil kept) p.ordered;
+        },
+        looks_begin E word_of value clearly rows h.marked items h p.are.objects refl all.1.closed (subst (λ (t : State). AreEphemerons t.ephemerons items) p.state are),
       )
 
-  to_late_picks : (s : State) (kept : List Item) (h : Graph) (c : Picked E word_of b before) → Sifts E word_of (state_with b shorts b.long c.table.registrations c.table.late c.picks) clearly c.mid Late LateAt s kept [] h → AreInOrder place_of (kept ++ [])
-      → (items : List Item) → items ≡ kept → PicksLate E word_of b before s items h
+  to_late_again : (s : State) (aside off more_aside more_off : List Item) (h : Graph) → (w : SettlesPicked E word_of value b before s aside) → waiting.Marking E word_of value clearly rows w.marked [] [] off h → (items : List Item) → items ≡ aside
+      → At LateAgain s [] items more_aside more_off h
+  to_late_again s aside off more_aside more_off h w p items is =
+      let c : Picked E word_of value b before = record {
+        leading = w.leading;
+        table = w.table;
+        picks = w.picks;
+        reached = w.marked;
+        mid = h.marked;
+        are = w.are;
+        marks = w.marks;
+        settled = is_settled E word_of value clearly rows w.marked off h p;
+      } in (
+        c,
+        sifts_begin E word_of value _ clearly h.marked Late LateAt s items h w.state p.settling.objects_are refl (subst (Each Late) (sym is) w.aside_are)
+            (λ object word at un. subst (OneOf (IsAt object word)) (sym is) (w.rest object word at (not_before E word_of value b before begin w.leading.led h.marked (led_picked E word_of value b before begin c) object un))),
+        subst (AreInOrder place_of) (sym is) w.ordered,
+      )
+
+  to_late_picks : (s : State) (kept : List Item) (h : Graph) (c : Picked E word_of value b before) → Sifts E word_of value (picked_with E word_of value b before c.table c.picks) clearly c.mid Late LateAt s kept [] h → AreInOrder place_of (kept ++ [])
+      → (items : List Item) → items ≡ kept → PicksLate E word_of value b before s items h
   to_late_picks s kept h c p ordered items is = record {
     first = c;
     now = c.table;
     late_picks = [];
-    state = p.state ∙ ap (λ ps. state_with b shorts b.long c.table.registrations c.table.late ps) (sym (append-nil c.picks));
-    are = choosing_begins E clearly c.table c.mid true (contains b.late) 256 items h p.objects_are p.marks_are c.marks.closed
+    state = p.state ∙ ap (λ ps. picked_with E word_of value b before c.table ps) (sym (append-nil c.picks));
+    are = choosing_begins E clearly c.table c.mid true (contains b.late) 256 items h p.objects_are p.marks_are (whole_closed word_of value clearly (IsOfKey rows) c.mid c.settled.whole)
         (λ a r here off. one_as (IsAt a 0) (λ (i : Item). i.object ≡ a) (λ i at. at.0) items
         (subst (OneOf (IsAt a 0)) (sym is)
-        (sifted c.mid Late LateAt kept p.sifted a 0 (ap is_some (was_there E word_of b before begin c a r here), flag_of_round true (contains b.late) c.mid a (ap not off), refl) (unskipped_off true (contains b.late) c.mid a (ap not off)))));
+        (sifted c.mid Late LateAt kept p.sifted a 0 (ap is_some (was_there E word_of value b before begin c a r here), flag_of_round true (contains b.late) c.mid a (ap not off), refl) (unskipped_off true (contains b.late) c.mid a (ap not off)))));
     left_are = subst (Each (λ i. Late i × (c.mid i.object ≡ false))) (sym is) p.sifted.kept_are;
     ordered = subst (AreInOrder place_of) (append-nil kept ∙ sym is) ordered;
   }
 
-  to_long_targets : (s : State) (h : Graph) → PicksLate E word_of b before s [] h → (items : List Item) → AreLinks s.long items → IsIn E word_of b before LongTargets s [] items h
-  to_long_targets s h p items are =
-      let all = chosen_all E clearly p.first.table p.first.mid true (contains b.late) 256 p.now p.late_picks h p.are in
-      let c : PickedBoth E word_of b before = record { first = p.first; table = p.now; late_picks = p.late_picks; kept = h.marked; are = all.0; marks = all.1 } in
-      let listed : AreLinks b.long items = subst (λ (t : State). AreLinks t.long items) p.state are in (
-        c,
-        sifts_begin E word_of _ clearly h.marked (IsLink word_of clearly b.long h.marked) (IsLinkAt word_of clearly b.long h.marked) s items h p.state p.are.objects refl (links_each b.long items listed)
-            (λ object word here off. links_all b.long items listed object word here),
+  -- ---- to long links
+
+  to_last : (s : State) (kept : List Item) (h : Graph) → PicksLate E word_of value b before s [] h → (items : List Item) → AreEphemerons s.ephemerons items → At (Keys moments.Last) s [] items kept [] h
+  to_last s kept h p items are =
+      let all = chosen_all E clearly p.first.table p.first.mid true (contains b.late) 256 p.now p.late_picks h p.are in (
+        record { first = p.first; table = p.now; late_picks = p.late_picks; marked = h.marked; are = all.0; marks = all.1; state = p.state },
+        looks_begin E word_of value clearly rows h.marked items h p.are.objects refl all.1.closed (subst (λ (t : State). AreEphemerons t.ephemerons items) p.state are),
       )
 
-  pub turn : (phase : Phase) (s : State) (kept : List Item) (h : Graph) → IsIn E word_of b before phase s kept [] h → IsAfter E word_of b before (next_phase phase) s kept h
-  turn ShortCleanups s kept h p = absurd p
-  turn ShortTargets s kept h p = λ items is. clears_begin E word_of (λ links. state_with b links b.long b.registrations b.late []) before.objects b.short before.marked begin.short s kept items h p is
-  turn ShortWords s kept h p = λ items are. to_objects s h p items are
-  turn Objects s kept h p = λ items is. to_children s kept h p items is
-  turn Children s kept h p = λ items is. to_again s kept h p items is
-  turn Again s kept h (l, p) = λ items turned. to_picks s kept h l p items turned
-  turn Picks s kept h p = λ items is. to_late_again s kept h p items is
-  turn LateAgain s kept h (c, p, ordered) = λ items is. to_late_picks s kept h c p ordered items is
-  turn LatePicks s kept h p = λ items are. to_long_targets s h p items are
-  turn LongTargets s kept h (c, p) = λ items is. (c, clears_begin E word_of (after_picks E word_of b before c shorts) clearly b.long c.kept (long_targets E word_of b before begin) s kept items h p is)
-  turn LongWords s kept h (c, p) = λ items are.
-      let all = clears_all E word_of (after_picks E word_of b before c shorts) clearly b.long c.kept (long_targets E word_of b before begin) begin.apart s h p in
-      (c, holds_begin E word_of (λ links. after_picks E word_of b before c links (long_left E word_of b before c)) (last E word_of b before c) shorts c.kept s items h all.0 all.1 all.2 (subst (λ (t : State). AreLinks t.short items) all.0 are))
-  turn ShortHolders s kept h (c, p) = λ items are.
-      let all = holds_all E word_of (λ links. after_picks E word_of b before c links (long_left E word_of b before c)) (last E word_of b before c) shorts c.kept s h p in
-      (c, holds_begin E word_of (λ links. after_picks E word_of b before c (short_held E word_of b before c) links) (last E word_of b before c) (long_left E word_of b before c) c.kept s items h all.0 all.1 all.2 (subst (λ (t : State). AreLinks t.long items) all.0 are))
-  turn LongHolders s kept h (c, p) = λ items are.
-      let all = holds_all E word_of (λ links. after_picks E word_of b before c (short_held E word_of b before c) links) (last E word_of b before c) (long_left E word_of b before c) c.kept s h p in
-      (c, cleaning_begins E word_of Long (passed E word_of b before c) (last E word_of b before c) c.kept s items h all.0 all.1 all.2 (subst (λ (t : State). AreCleanups Long t.cleanups items) all.0 are))
-  turn LongCleanups s kept h (c, p) =
-      record { chosen = c; cleaned = cleaning_all E word_of Long (passed E word_of b before c) (last E word_of b before c) c.kept s h p; objects_are = p.objects_are; marks_are = p.marks_are }
+  to_long_targets : (s : State) (off more_aside more_off : List Item) (h : Graph) → (w : SettlesLast E word_of value b before s) → waiting.Marking E word_of value clearly rows w.marked [] [] off h → (items : List Item) → AreLinks s.long items
+      → At LongTargets s [] items more_aside more_off h
+  to_long_targets s off more_aside more_off h w p items are =
+      let c : PickedBoth E word_of value b before = record {
+        first = w.first;
+        table = w.table;
+        late_picks = w.late_picks;
+        reached = w.marked;
+        kept = h.marked;
+        are = w.are;
+        marks = w.marks;
+        settled = is_settled E word_of value clearly rows w.marked off h p;
+      } in
+      let listed : AreLinks b.long items = subst (λ (t : State). AreLinks t.long items) w.state are in (
+        c,
+        sifts_begin E word_of value _ clearly h.marked (IsLink word_of clearly b.long h.marked) (IsLinkAt word_of clearly b.long h.marked) s items h w.state p.settling.objects_are refl (links_each b.long items listed)
+            (λ object word here un. links_all b.long items listed object word here),
+      )
+
+  -- ---- while the marks become whole
+
+  on_holders : (moment : Moment) (s : State) (kept aside off : List Item) (h : Graph) → IsSettling E word_of value b before moment (Keys moment) s kept [] aside off h → (items : List Item) → items ≡ kept → At (Holders moment) s [] items aside off h
+  on_holders moments.First s kept aside off h p items is = absurd p
+  on_holders moments.Led s kept aside off h (w, p) items is = (w, to_holders E word_of value clearly rows w.marked kept items off h p is)
+  on_holders moments.Picked s kept aside off h (w, p) items is = (w, to_holders E word_of value clearly rows w.marked kept items off h p is)
+  on_holders moments.Last s kept aside off h (w, p) items is = (w, to_holders E word_of value clearly rows w.marked kept items off h p is)
+
+  again_holders : (moment : Moment) (s : State) (kept aside off : List Item) (h : Graph) → IsSettling E word_of value b before moment (KeysAgain moment) s kept [] aside off h → (items : List Item) → items ≡ kept → At (Holders moment) s [] items aside off h
+  again_holders moments.First s kept aside off h p items is = absurd p
+  again_holders moments.Led s kept aside off h (w, p) items is = (w, to_holders E word_of value clearly rows w.marked kept items off h p is)
+  again_holders moments.Picked s kept aside off h (w, p) items is = (w, to_holders E word_of value clearly rows w.marked kept items off h p is)
+  again_holders moments.Last s kept aside off h (w, p) items is = (w, to_holders E word_of value clearly rows w.marked kept items off h p is)
+
+  on_values : (moment : Moment) (s : State) (kept aside off : List Item) (h : Graph) → IsSettling E word_of value b before moment (Holders moment) s kept [] aside off h → (items : List Item) → items ≡ kept → At (Values moment) s [] items aside off h
+  on_values moments.First s kept aside off h p items is = absurd p
+  on_values moments.Led s kept aside off h (w, p) items is = (w, to_values E word_of value clearly rows w.marked kept items off h p is)
+  on_values moments.Picked s kept aside off h (w, p) items is = (w, to_values E word_of value clearly rows w.marked kept items off h p is)
+  on_values moments.Last s kept aside off h (w, p) items is = (w, to_values E word_of value clearly rows w.marked kept items off h p is)
+
+  on_keys : (moment : Moment) (s : State) (kept aside off : List Item) (h : Graph) → IsSettling E word_of value b before moment (Values moment) s kept [] aside off h → (items : List Item) → items ≡ off → At (KeysAgain moment) s [] items aside [] h
+  on_keys moments.First s kept aside off h p items is = absurd p
+  on_keys moments.Led s kept aside off h (w, p) items is = (w, to_keys E word_of value clearly rows w.marked kept items off h p is)
+  on_keys moments.Picked s kept aside off h (w, p) items is = (w, to_keys E word_of value clearly rows w.marked kept items off h p is)
+  on_keys moments.Last s kept aside off h (w, p) items is = (w, to_keys E word_of value clearly rows w.marked kept items off h p is)
+
+  -- and once they are
+  behind_on : (moment : Moment) (s : State) (aside off : List Item) (h : Graph) → IsSettling E word_of value b before moment (Values moment) s [] [] aside off h → IsAfter E word_of value b before (next_phase (Values moment) []) s [] aside off h
+  behind_on moments.First s aside off h p = absurd p
+  behind_on moments.Led s aside off h (w, p) = λ items is. to_again s aside off [] [] h w p items is
+  behind_on moments.Picked s aside off h (w, p) = λ items is. to_late_again s aside off [] [] h w p items is
+  behind_on moments.Last s aside off h (w, p) = λ items are. to_long_targets s off [] [] h w p items are
+
+  -- ---- all phases
+
+  pub turn : (phase : Phase) (s : State) (kept aside off : List Item) (h : Graph) → At phase s kept [] aside off h → IsAfter E word_of value b before (next_phase phase kept) s kept aside off h
+  turn (Keys moment) s kept aside off h p = λ items is. on_holders moment s kept aside off h p items is
+  turn (KeysAgain moment) s kept aside off h p = λ items is. again_holders moment s kept aside off h p items is
+  turn (Holders moment) s kept aside off h p = λ items is. on_values moment s kept aside off h p items is
+  turn (Values moment) s [] aside off h p = behind_on moment s aside off h p
+  turn (Values moment) s (x ∷ kept) aside off h p = λ items is. on_keys moment s (x ∷ kept) aside off h p items is
+  turn ShortCleanups s kept aside off h p = absurd p
+  turn ShortTargets s kept aside off h p = λ items is. clears_begin E word_of value (λ links. with_links links b.ephemerons.short) before.objects b.short before.marked begin.short s kept items h p is
+  turn ShortWords s kept aside off h p = λ items are. to_short_keys s aside off h p items are
+  turn ShortKeys s kept aside off h p = λ items is. clears_begin E word_of value (λ keys. with_links shorts keys) begun b.ephemerons.short before.marked (short_key_targets E word_of value b before begin) s kept items h p is
+  turn ShortKeyWords s kept aside off h p = λ items are. to_objects s aside off h p items are
+  turn Objects s kept aside off h p = λ items is. to_children s kept h p items is
+  turn Children s kept aside off h p = λ items are. to_led s kept h p items are
+  turn Again s kept aside off h (l, p) = λ items turned. to_picks s kept h l p items turned
+  turn Picks s kept aside off h p = λ items are. to_picked s kept h p items are
+  turn LateAgain s kept aside off h (c, p, ordered) = λ items is. to_late_picks s kept h c p ordered items is
+  turn LatePicks s kept aside off h p = λ items are. to_last s kept h p items are
+  turn LongTargets s kept aside off h (c, p) = λ items is.
+      (c, clears_begin E word_of value (λ links. after_picks E word_of value b before c shorts links keys b.ephemerons.long) clearly b.long c.kept (long_targets E word_of value b before begin) s kept items h p is)
+  turn LongWords s kept aside off h (c, p) = λ items are.
+      let all = clears_all E word_of value (λ links. after_picks E word_of value b before c shorts links keys b.ephemerons.long) clearly b.long c.kept (long_targets E word_of value b before begin) begin.apart s h p in
+      let listed : AreLinks b.ephemerons.long items = subst (λ (t : State). AreLinks t.ephemerons.long items) all.0 are in
+      let cleared_long = last_links E word_of value b before c in (
+        c,
+        sifts_begin E word_of value _ cleared_long c.kept (IsLink word_of cleared_long b.ephemerons.long c.kept) (IsLinkAt word_of cleared_long b.ephemerons.long c.kept) s items h all.0 all.1 all.2
+            (links_each b.ephemerons.long items listed) (λ object word here un. links_all b.ephemerons.long items listed object word here),
+      )
+  turn LongKeys s kept aside off h (c, p) = λ items is.
+      (c, clears_begin E word_of value (λ others. after_picks E word_of value b before c shorts (long_left E word_of value b before c) keys others) (last_links E word_of value b before c) b.ephemerons.long c.kept (long_key_targets E word_of value b before begin c.kept) s kept items h p is)
+  turn LongKeyWords s kept aside off h (c, p) = λ items are.
+      let all = clears_all E word_of value (λ others. after_picks E word_of value b before c shorts (long_left E word_of value b before c) keys others) (last_links E word_of value b before c) b.ephemerons.long c.kept (long_key_targets E word_of value b before begin c.kept) begin.apart s h p in (
+        c,
+        holds_begin E word_of value (λ links. after_picks E word_of value b before c links (long_left E word_of value b before c) keys (long_keys_left E word_of value b before c)) (last E word_of value b before c) shorts c.kept s items h all.0 all.1 all.2
+            (subst (λ (t : State). AreLinks t.short items) all.0 are),
+      )
+  turn ShortHolders s kept aside off h (c, p) = λ items are.
+      let all = holds_all E word_of value (λ links. after_picks E word_of value b before c links (long_left E word_of value b before c) keys (long_keys_left E word_of value b before c)) (last E word_of value b before c) shorts c.kept s h p in (
+        c,
+        holds_begin E word_of value (λ links. after_picks E word_of value b before c (short_held E word_of value b before c) links keys (long_keys_left E word_of value b before c)) (last E word_of value b before c) (long_left E word_of value b before c) c.kept s items h
+            all.0 all.1 all.2 (subst (λ (t : State). AreLinks t.long items) all.0 are),
+      )
+  turn LongHolders s kept aside off h (c, p) = λ items are.
+      let all = holds_all E word_of value (λ links. after_picks E word_of value b before c (short_held E word_of value b before c) links keys (long_keys_left E word_of value b before c)) (last E word_of value b before c) (long_left E word_of value b before c) c.kept s h p in (
+        c,
+        holds_begin E word_of value (λ others. after_picks E word_of value b before c (short_held E word_of value b before c) (long_held E word_of value b before c) others (long_keys_left E word_of value b before c)) (last E word_of value b before c) keys c.kept s items h
+            all.0 all.1 all.2 (subst (λ (t : State). AreLinks t.ephemerons.short items) all.0 are),
+      )
+  turn ShortKeyHolders s kept aside off h (c, p) = λ items are.
+      let all = holds_all E word_of value (λ others. after_picks E word_of value b before c (short_held E word_of value b before c) (long_held E word_of value b before c) others (long_keys_left E word_of value b before c)) (last E word_of value b before c) keys c.kept s h p in (
+        c,
+        holds_begin E word_of value (λ others. after_picks E word_of value b before c (short_held E word_of value b before c) (long_held E word_of value b before c) (keys_held E word_of value b before c) others) (last E word_of value b before c)
+            (long_keys_left E word_of value b before c) c.kept s items h all.0 all.1 all.2 (subst (λ (t : State). AreLinks t.ephemerons.long items) all.0 are),
+      )
+  turn LongKeyHolders s kept aside off h (c, p) = λ items are.
+      let all = holds_all E word_of value (λ others. after_picks E word_of value b before c (short_held E word_of value b before c) (long_held E word_of value b before c) (keys_held E word_of value b before c) others) (last E word_of value b before c)
+      (long_keys_left E word_of value b before c) c.kept s h p in
+      (c, cleaning_begins E word_of value Long (passed E word_of value b before c) (last E word_of value b before c) c.kept s items h all.0 all.1 all.2 (subst (λ (t : State). AreCleanups Long t.cleanups items) all.0 are))
+  turn LongCleanups s kept aside off h (c, p) =
+      record { chosen = c; cleaned = cleaning_all E word_of value Long (passed E word_of value b before c) (last E word_of value b before c) c.kept s h p; objects_are = p.objects_are; marks_are = p.marks_are }
 
   -- ---- what is left at the end
 
-  module _ (s : State) (h : Graph) (p : IsAtEnd E word_of b before s h) where
-    abbrev c : PickedBoth E word_of b before
+  module _ (s : State) (h : Graph) (p : IsAtEnd E word_of value b before s h) where
+    abbrev c : PickedBoth E word_of value b before
     c = p.chosen
 
-    lies : (w : ℕ) → points (last E word_of b before c) w ≡ points before.objects w
-    lies w = pointed before.objects (placed word_of b.short) before.marked (placed word_of b.long) c.kept w
+    abbrev at_last : Map Object
+    at_last = last E word_of value b before c
 
-    short_is : short_held E word_of b before c ≡ links_held word_of before.objects b.short before.marked c.kept
-    short_is = dropped_twice word_of (last E word_of b before c) before.objects b.short before.marked c.kept lies
+    lies : (w : ℕ) → points at_last w ≡ points before.objects w
+    lies w =
+        points-filled (is_dead (last_links E word_of value b before c) (placed word_of b.ephemerons.long) c.kept) 0 (last_links E word_of value b before c) w
+        ∙ points-filled (is_dead clearly (placed word_of b.long) c.kept) 0 clearly w
+        ∙ points-filled (is_dead begun (placed word_of b.ephemerons.short) before.marked) 0 begun w
+        ∙ points-filled (is_dead before.objects (placed word_of b.short) before.marked) 0 before.objects w
 
-    long_is : long_held E word_of b before c ≡ links_held word_of before.objects b.long c.kept c.kept
-    long_is = dropped_twice word_of (last E word_of b before c) before.objects b.long c.kept c.kept lies
+    dropped : (links : Map ℕ) (targets : ℕ → Bool) → with_holders word_of at_last (with_targets links targets) c.kept ≡ links_held word_of before.objects links targets c.kept
+    dropped links targets = dropped_twice word_of at_last before.objects links targets c.kept lies
 
     abbrev pub end : State
-    end = passed E word_of b before c
+    end = passed E word_of value b before c
 
-    both : QueuesTiers E (contains b.late) b.passes (length b.queue) clearly c.first.leading.led c.kept (tabled b) c.table b.queue end.queue
+    both : QueuesWhole E word_of value (IsOfKey rows) (contains b.late) b.passes (length b.queue) clearly c.first.leading.led c.kept (tabled b) c.table b.queue end.queue
     both = record {
       picks = c.first.picks;
       late_picks = c.late_picks;
+      after = c.first.reached;
       between = c.first.mid;
+      after_late = c.reached;
       mid = c.first.table;
       queued = refl;
       picked = c.first.are;
       reached = c.first.marks;
+      settled = c.first.settled;
       picked_late = c.are;
       reached_late = c.marks;
+      settled_late = c.settled;
     }
 
-    abbrev DecidesHere : State → Type 0
-    DecidesHere t = Decides E word_of b.passes b.late t.late (parts_in before.objects b) before.marked (parts_left_in h.objects h.marked t) b.queue t.queue
-
-    pub decides : DecidesHere end
+    pub decides : DecidesKeyed E word_of value b.passes b.late end.late (parts_in before.objects b) b.ephemerons before.marked (parts_left_in h.objects h.marked end) end.ephemerons b.queue end.queue
     decides =
-        let objects_are : retain_keys h.objects h.marked ≡ retain_keys (last E word_of b before c) c.kept = λ i. retain_keys (p.objects_are i) (p.marks_are i) in
-        decided E word_of (contains b.late) before.objects b.short b.long before.marked c.first.leading.led c.kept (tabled b) c.table b.passes (length b.queue) b.queue end.queue (normal E word_of b before begin) (registered E word_of b before begin) c.first.leading.marks both
-        (parts_left_in h.objects h.marked end) (λ i. record { objects = objects_are i; registrations = c.table.registrations; short = short_is i; long = long_is i })
+        let objects_are : retain_keys h.objects h.marked ≡ retain_keys at_last c.kept = λ i. retain_keys (p.objects_are i) (p.marks_are i) in
+        let short_is : short_held E word_of value b before c ≡ links_held word_of before.objects b.short before.marked c.kept = dropped b.short before.marked in
+        let long_is : long_held E word_of value b before c ≡ links_held word_of before.objects b.long c.kept c.kept = dropped b.long c.kept in
+        let keys_are : keys_held E word_of value b before c ≡ links_held word_of before.objects b.ephemerons.short before.marked c.kept = dropped b.ephemerons.short before.marked in
+        let long_keys_are : long_keys_held E word_of value b before c ≡ links_held word_of before.objects b.ephemerons.long c.kept c.kept = dropped b.ephemerons.long c.kept in
+        decided E word_of value (contains b.late) before.objects b.short b.long b.ephemerons before.marked c.first.leading.first_led c.first.leading.led c.kept (tabled b) c.table b.passes (length b.queue) b.queue end.queue
+        (registered E word_of value b before begin) c.first.leading.marks c.first.leading.settled both
+        (parts_left_in h.objects h.marked end) end.ephemerons (λ i. record { objects = objects_are i; registrations = c.table.registrations; short = short_is i; long = long_is i })
+        (λ i. record { short = keys_are i; long = long_keys_are i })
 
     pub still_marked : (a : ℕ) → IsTrue (before.marked a) → IsTrue (h.marked a)
-    still_marked a on = subst (λ (m : ℕ → Bool). IsTrue (m a)) (sym p.marks_are) (c.marks.least a (inl (c.first.marks.least a (inl (c.first.leading.marks.least a (inl on))))))
+    still_marked a on =
+        let led = found_led E word_of value b before begin c.first.leading a on in
+        let mid = led_picked E word_of value b before begin c.first a led in
+        subst (λ (m : ℕ → Bool). IsTrue (m a)) (sym p.marks_are) (c.settled.more a (c.marks.least a (inl mid)))
 
     pub closed_after : IsClosed h.objects h.marked
     closed_after =
-        let nowhere = points-filled (is_dead before.objects (placed word_of b.short) before.marked) 0 before.objects 0 ∙ begin.zero in
-        subst (λ (m : Map Object). IsClosed m h.marked) (sym p.objects_are) (subst (IsClosed (last E word_of b before c)) (sym p.marks_are) (closed_still clearly (placed word_of b.long) c.kept nowhere c.marks.closed))
+        let whole = whole_closed word_of value clearly (IsOfKey rows) c.kept c.settled.whole in
+        let nowhere = points-filled (is_dead clearly (placed word_of b.long) c.kept) 0 clearly 0 ∙ still_nowhere E word_of value b before begin in
+        let once = closed_still clearly (placed word_of b.long) c.kept (still_nowhere E word_of value b before begin) whole in
+        subst (λ (m : Map Object). IsClosed m h.marked) (sym p.objects_are)
+        (subst (IsClosed at_last) (sym p.marks_are) (closed_still (last_links E word_of value b before c) (placed word_of b.ephemerons.long) c.kept nowhere once))

@@ -1,5 +1,5 @@
 -- A machine whose entries are taken and finished, or that has another registration.
-use Rattle.std.proofs.Common.{◌≡◌, ◌++◌, [], ℕ, Option, Some, None, Result, Ok, Err, OnOk, OnErr, MatchOption, IsTrue, inl, sym, ap, subst, ◌∙◌}
+use Rattle.std.proofs.Common.{◌≡◌, ◌≤◌, ◌++◌, [], ℕ, false, true≢false, cond, Option, Some, None, Result, Ok, Err, OnOk, OnErr, MatchOption, IsTrue, inl, sym, ap, subst, ◌∙◌}
 use Rattle.std.proofs.lemmas.Option.{none-some}
 use Rattle.fz_model.specs.declared.answers.Entry.{Entry}
 use Rattle.fz_model.specs.Steps.{registration_of}
@@ -10,7 +10,8 @@ use Rattle.fz_finalizers.specs.Kinds.{table_finalizer}
 use Rattle.fz_finalizers.specs.States.{State, waiting}
 use Rattle.fz_machine.specs.declared.phase.Phase.{Phase}
 use Rattle.fz_machine.specs.declared.phase.Phase.TheVariants.{Objects}
-use Rattle.fz_machine.specs.Going.{walk_by, HasRoom, IsInOrder}
+use Rattle.fz_machine.specs.Going.{ephemerons_in, walk_by, HasRoom, HaveRoom, IsInOrder}
+use Rattle.fz_machine.specs.Phases.{settles_in}
 use Rattle.fz_machine.specs.Machines.{IsWork}
 use Rattle.fz_machine.specs.Regions.{Regions, IsNoted}
 use Rattle.fz_machine.specs.Walks.{Walk}
@@ -34,8 +35,15 @@ module _ (walk : Walk) (regions : Regions) where
 
     pub worked_in_order : (phase : Option Phase) (asked : ℕ) → IsInOrder s walk regions phase asked → IsInOrder t walk regions phase asked
     worked_in_order phase asked order =
-        let h = subst (λ (u : State). HasRoom u walk.room) (sym still) (record { registrations = order.room.registrations; short = order.room.short; long = order.room.long; cleanups = order.room.cleanups }) in
-        works_on s t registrations late walk regions phase asked (record { registrations = h.registrations; short = h.short; long = h.long; cleanups = h.cleanups }) order
+        let n : ℕ = cond (settles_in phase) walk.other walk.room in
+        let rest : ℕ = cond (settles_in phase) walk.room walk.other in
+        let room = order.room.main in
+        let old : HasRoom (apart 0 [] s) n = record { registrations = room.registrations; short = room.short; long = room.long; cleanups = room.cleanups; keyed = room.keyed } in
+        let new = subst (λ (u : State). HasRoom u n) (sym still) old in
+        let main : HasRoom t n = record { registrations = new.registrations; short = new.short; long = new.long; cleanups = new.cleanups; keyed = new.keyed } in
+        let keyed : ephemerons_in t ≡ ephemerons_in s = ap (λ (u : State). ephemerons_in u) still in
+        let rooms : HaveRoom (settles_in phase) t walk = record { main = main; rows = subst (λ k. k ≤ rest) (sym keyed) order.room.rows; off = subst (λ k. k ≤ walk.off_room) (sym keyed) order.room.off } in
+        works_on s t registrations late walk regions phase asked rooms order
 
   module _ (s t : State) (event : Entry → Event) (work : (e : Entry) → IsWork (event e)) where
     pub taken_walk : (result : Option Entry) → MatchOption result ((waiting s ≡ []) × (t ≡ s)) (λ e. Follows s (event e) t) → walk_by t walk regions ≡ walk_by s walk regions
@@ -56,18 +64,20 @@ module _ (walk : Walk) (regions : Regions) where
     finished_in_order phase asked (Err r) same follows order = subst (λ (u : State). IsInOrder u walk regions phase asked) (sym same) order
 
 -- an object is registered, after it was noted
-pub registered_in_order : {A : Type 0} (s t : State) (walk other : Walk) (old new : Regions) (phase : Option Phase) (asked object : ℕ) (finalizer : Finalizer) → IsInOrder s walk old phase asked → phase ≡ None → HasRoom t other.room → new.left ≡ []
+pub registered_in_order : {A : Type 0} (s t : State) (walk other : Walk) (old new : Regions) (phase : Option Phase) (asked object : ℕ) (finalizer : Finalizer) → IsInOrder s walk old phase asked → phase ≡ None → HaveRoom false t other → new.left ≡ []
     → (IsTrue new.complete → IsTrue old.complete × IsNoted new.order object) → ((q : ℕ) → IsNoted old.order q → IsNoted new.order q)
     → (result : Result A Refused) → OnErr result (t ≡ s) → OnOk result (Follows s (Register object finalizer) t) → IsInOrder t other new phase asked
 registered_in_order s t walk other old new phase asked object finalizer order idle room none complete kept (Ok x) same follows = record {
-  room = room;
+  room = subst (λ (o : Option Phase). HaveRoom (settles_in o) t other) (sym idle) room;
+  room_off = λ on. absurd (true≢false (sym on ∙ ap settles_in idle));
   keeps = inl none;
   noted = λ all. noted_more s t old.order new.order object (registration_of s.next_number (table_finalizer finalizer)) (ap (λ (u : State). u.registrations) follows) (complete all).1 kept (order.noted (complete all).0);
   during = inl none;
   by_regions = λ at all. absurd (none-some Objects (sym idle ∙ at));
 }
 registered_in_order s t walk other old new phase asked object finalizer order idle room none complete kept (Err r) same follows = record {
-  room = room;
+  room = subst (λ (o : Option Phase). HaveRoom (settles_in o) t other) (sym idle) room;
+  room_off = λ on. absurd (true≢false (sym on ∙ ap settles_in idle));
   keeps = inl none;
   noted = λ all q there. kept q (order.noted (complete all).0 q (same_fewer s.registrations t.registrations (ap (λ (u : State). u.registrations) same) q there));
   during = inl none;

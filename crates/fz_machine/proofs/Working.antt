@@ -13,25 +13,31 @@ use Rattle.fz_finalizers.specs.Kinds.{is_late}
 use Rattle.fz_finalizers.specs.States.{State, is_held}
 use Rattle.fz_machine.specs.declared.item.Item.{Item}
 use Rattle.fz_machine.specs.declared.phase.Phase.{Phase}
-use Rattle.fz_machine.specs.declared.phase.Phase.TheVariants.{ShortCleanups, ShortTargets, ShortWords, Objects, Children, Again, Picks, LateAgain, LatePicks, LongTargets, LongWords, ShortHolders, LongHolders, LongCleanups}
+use Rattle.fz_machine.specs.declared.phase.Phase.TheVariants.{Keys, KeysAgain, Holders, Values, ShortCleanups, ShortTargets, ShortWords, ShortKeys, ShortKeyWords, Objects, Children, Again, Picks, LateAgain, LatePicks, LongTargets, LongWords, LongKeys, LongKeyWords, ShortHolders, LongHolders, ShortKeyHolders, LongKeyHolders, LongCleanups}
 use Rattle.fz_machine.specs.Machines as machines
 use Rattle.fz_machine.specs.Machines.{IsWork, Works}
-use Rattle.fz_machine.specs.Phases.{Lists, after, asks, keeps}
+use Rattle.fz_machine.specs.Phases.{Lists, after, asks, given, keeps, next_phase, puts_off, without_key}
 use Rattle.fz_machine.specs.Steps.{Asks, Begins, Ends, Going, GoesOn, Turns, skip, skipped, step, stepped, steps}
 use Rattle.fz_machine.proofs.Phasing.{kept_on}
 use Rattle.fz_machine.proofs.Throughout as throughout
 
--- ---- what an answer does: nothing, or one of four changes
+-- ---- what an answer does: nothing, or one of five changes
 
-module _ (P : (State → State) → Type 0) (same : P (λ s. s)) (short : (word : ℕ) → P (λ s. record s { short = remove s.short word })) (long : (word : ℕ) → P (λ s. record s { long = remove s.long word })) (queued : (object : ℕ) → P (λ s. queued_object s object)) (cleaned : (number : ℕ) → P (λ s. queued_cleanup s number)) where
+module _ (P : (State → State) → Type 0) (same : P (λ s. s)) (short : (word : ℕ) → P (λ s. record s { short = remove s.short word })) (long : (word : ℕ) → P (λ s. record s { long = remove s.long word })) (keyed : (word : ℕ) → P (λ s. without_key s word)) (queued : (object : ℕ) → P (λ s. queued_object s object)) (cleaned : (number : ℕ) → P (λ s. queued_cleanup s number)) where
   unless : (b : Bool) (f : State → State) → P f → P (λ s. cond b s (f s))
   unless true f h = same
   unless false f h = h
 
   by_change : (phase : Phase) (item : Item) (answer : Bool) → P (λ s. after phase item answer s)
+  by_change (Keys moment) item answer = same
+  by_change (KeysAgain moment) item answer = same
+  by_change (Holders moment) item answer = same
+  by_change (Values moment) item answer = same
   by_change ShortCleanups item answer = unless answer (λ s. queued_cleanup s item.word) (cleaned item.word)
   by_change ShortTargets item answer = same
   by_change ShortWords item answer = short item.word
+  by_change ShortKeys item answer = same
+  by_change ShortKeyWords item answer = keyed item.word
   by_change Objects item answer = same
   by_change Children item answer = same
   by_change Again item answer = same
@@ -40,8 +46,12 @@ module _ (P : (State → State) → Type 0) (same : P (λ s. s)) (short : (word 
   by_change LatePicks item answer = queued item.object
   by_change LongTargets item answer = same
   by_change LongWords item answer = long item.word
+  by_change LongKeys item answer = same
+  by_change LongKeyWords item answer = keyed item.word
   by_change ShortHolders item answer = unless answer (λ s. record s { short = remove s.short item.word }) (short item.word)
   by_change LongHolders item answer = unless answer (λ s. record s { long = remove s.long item.word }) (long item.word)
+  by_change ShortKeyHolders item answer = unless answer (λ s. without_key s item.word) (keyed item.word)
+  by_change LongKeyHolders item answer = unless answer (λ s. without_key s item.word) (keyed item.word)
   by_change LongCleanups item answer = unless answer (λ s. queued_cleanup s item.word) (cleaned item.word)
 
 -- ---- apart from what is taken and held
@@ -71,7 +81,7 @@ module _ (taken : ℕ) (held : List Entry) where
       by (Some c) = refl
 
   pub after_apart : (phase : Phase) (item : Item) (answer : Bool) (s : State) → after phase item answer (apart s) ≡ apart (after phase item answer s)
-  after_apart = by_change Commutes (λ s. refl) (λ word s. refl) (λ word s. refl) queued_apart cleaned_apart
+  after_apart = by_change Commutes (λ s. refl) (λ word s. refl) (λ word s. refl) (λ word s. refl) queued_apart cleaned_apart
 
   module _ (phase : Phase) where
     step_apart : (answer : Bool) (g : Going) → step phase answer (going_apart g) ≡ going_apart (step phase answer g)
@@ -79,7 +89,7 @@ module _ (taken : ℕ) (held : List Entry) where
       where
         by : (xs : List Item) → stepped phase answer (going_apart g) xs ≡ going_apart (stepped phase answer g xs)
         by [] = refl
-        by (item ∷ left) = λ i. record { finalizers = after_apart phase item answer g.finalizers i; kept = kept_on (keeps phase item answer) g.kept item; left = left }
+        by (item ∷ left) = λ i. record { finalizers = after_apart phase item answer g.finalizers i; kept = kept_on (keeps phase item answer) g.kept item; left = left; aside = g.aside; off = kept_on (puts_off phase answer) g.off item }
 
     pub steps_apart : (answers : List Bool) (g : Going) → steps phase answers (going_apart g) ≡ going_apart (steps phase answers g)
     steps_apart [] g = refl
@@ -98,9 +108,15 @@ module _ (taken : ℕ) (held : List Entry) where
     skip_apart g = skipped_apart g.left g
 
   lists_apart : (phase : Phase) (s : State) (kept items : List Item) → Lists phase s kept items → Lists phase (apart s) kept items
+  lists_apart (Keys moment) s kept items is = is
+  lists_apart (KeysAgain moment) s kept items is = is
+  lists_apart (Holders moment) s kept items is = is
+  lists_apart (Values moment) s kept items is = is
   lists_apart ShortCleanups s kept items is = is
   lists_apart ShortTargets s kept items is = is
   lists_apart ShortWords s kept items is = is
+  lists_apart ShortKeys s kept items is = is
+  lists_apart ShortKeyWords s kept items is = is
   lists_apart Objects s kept items is = is
   lists_apart Children s kept items is = is
   lists_apart Again s kept items is = is
@@ -109,21 +125,25 @@ module _ (taken : ℕ) (held : List Entry) where
   lists_apart LatePicks s kept items is = is
   lists_apart LongTargets s kept items is = is
   lists_apart LongWords s kept items is = is
+  lists_apart LongKeys s kept items is = is
+  lists_apart LongKeyWords s kept items is = is
   lists_apart ShortHolders s kept items is = is
   lists_apart LongHolders s kept items is = is
+  lists_apart ShortKeyHolders s kept items is = is
+  lists_apart LongKeyHolders s kept items is = is
   lists_apart LongCleanups s kept items is = is
 
   begins_apart : (phase : Phase) (g k : Going) → Begins phase g k → Begins phase (going_apart g) (going_apart k)
-  begins_apart phase g k begins = record { same = ap apart begins.same; none = begins.none; lists = lists_apart phase g.finalizers g.kept k.left begins.lists }
+  begins_apart phase g k begins = record { same = ap apart begins.same; none = begins.none; lists = lists_apart phase g.finalizers (given phase g.kept g.aside g.off) k.left begins.lists; aside = begins.aside; off = begins.off }
 
   pub goes_apart : (phase : Phase) (g : Going) (last : Option Phase) (k : Going) → GoesOn phase g last k → GoesOn phase (going_apart g) last (going_apart k)
   goes_apart phase g last k (Asks item left some) =
       subst (λ (m : Going). GoesOn phase (going_apart g) (Some phase) m) (skip_apart phase g) (Asks item left (ap (λ (m : Going). m.left) (skip_apart phase g) ∙ some))
   goes_apart phase g last k (Turns {next = next} {h = h} none turns begins rest) =
-      Turns (ap (λ (m : Going). m.left) (skip_apart phase g) ∙ none) turns
+      Turns (ap (λ (m : Going). m.left) (skip_apart phase g) ∙ none) (ap (λ (m : Going). next_phase phase m.kept) (skip_apart phase g) ∙ turns)
       (subst (λ (m : Going). Begins next m (going_apart h)) (sym (skip_apart phase g)) (begins_apart next (skip phase g) h begins)) (goes_apart next h last k rest)
   goes_apart phase g last k (Ends none turns) =
-      subst (λ (m : Going). GoesOn phase (going_apart g) None m) (skip_apart phase g) (Ends (ap (λ (m : Going). m.left) (skip_apart phase g) ∙ none) turns)
+      subst (λ (m : Going). GoesOn phase (going_apart g) None m) (skip_apart phase g) (Ends (ap (λ (m : Going). m.left) (skip_apart phase g) ∙ none) (ap (λ (m : Going). next_phase phase m.kept) (skip_apart phase g) ∙ turns))
 
   -- a worker changes nothing else
   pub work_apart : (s t : State) (event : Event) → IsWork event → Follows s event t → apart t ≡ apart s
@@ -161,7 +181,7 @@ module _ (phase : Phase) (item : Item) (answer : Bool) where
       by (Some c) = slice_get-left s.queue _ k e at
 
   grows : Grows changed
-  grows = by_change Grows (λ s k e at. at) (λ word s k e at. at) (λ word s k e at. at) queued_grows cleaned_grows phase item answer
+  grows = by_change Grows (λ s k e at. at) (λ word s k e at. at) (λ word s k e at. at) (λ word s k e at. at) queued_grows cleaned_grows phase item answer
 
   next_here : (s : State) (e : Entry) → slice_get s.queue s.taken ≡ Some e → slice_get (changed s).queue (changed s).taken ≡ Some e
   next_here s e at = subst (λ n. slice_get (changed s).queue n ≡ Some e) (sym (same_taken s)) (grows s s.taken e at)

@@ -1,16 +1,17 @@
 -- A host's graph, and how an honest host responds to each question about it: as the trait `Host` of fz_pass requires of hosts that can be called.
 -- code: fz_machine/src/question.rt; fz_pass/src/host.rt
-use Rattle.std.specs.Prelude.{◌≡◌, ◌<◌, ◌^◌, ◌+◌, ◌*◌, ℕ, List, [], ◌∷◌, Bool, true, false, Option, Some, None, IsTrue}
+use Rattle.std.specs.Prelude.{◌≡◌, ◌<◌, ◌^◌, ◌+◌, ◌*◌, ℕ, List, [], ◌∷◌, Bool, true, false, Option, Some, None, IsTrue, IsFalse}
 use Rattle.std.specs.FinMap.{get, contains_key}
 use Rattle.fz_model.specs.Bits.{has_bit}
 use Rattle.fz_model.specs.Memory.{points}
 use Rattle.fz_model.specs.Reachability.{Leads}
 use Rattle.fz_model.specs.State.{Map, Object}
+use Rattle.fz_pass.specs.Holds.{IsOfValue}
 use Rattle.fz_pass.specs.Marks.{IsClosed, Marks, IsLeadingBut, IsLastToMark, AreRegistered, AreTargets}
 use Rattle.fz_pass.specs.Places.{StandApart, written_at, is_held}
 use Rattle.fz_finalizers.specs.States.{State}
 use Rattle.fz_machine.specs.declared.question.Ask.{Ask}
-use Rattle.fz_machine.specs.declared.question.Ask.TheVariants.{IsMarked, MarkChildren, MarkOthers, Mark, MarkAlone, Clear, IsHolderMarked, Marks as AskMarks}
+use Rattle.fz_machine.specs.declared.question.Ask.TheVariants.{IsMarked, MarkChildren, MarkOthers, Mark, MarkAlone, Clear, IsHolderMarked, MarkValue, Marks as AskMarks}
 
 pub record Graph : Type 0 where
   pub objects : Map Object  -- by address
@@ -31,6 +32,7 @@ MayAsk Mark object g = CanMark g object
 MayAsk MarkAlone object g = CanMark g object × IsLastToMark g.objects g.marked object
 MayAsk Clear word g = Unit {0}
 MayAsk IsHolderMarked word g = Unit {0}
+MayAsk MarkValue word g = IsClosed g.objects g.marked
 MayAsk AskMarks region g = ⊥  -- no item is asked about by this: `IsHonestWord` has its answers
 
 -- if nothing is asked, nothing is required
@@ -42,22 +44,24 @@ MayBeAsked (Some ask) subject g = MayAsk ask subject g
 abbrev pub Gains : Type 0 → Graph → Graph → (ℕ → Type 0) → Type 0
 Gains Exact old new gained = (new.objects ≡ old.objects) × Marks Exact old.objects old.marked new.marked gained
 
--- what an honest host answers, and the graph afterwards; for a command any answer is accepted; `place` is the word of an object that a link denotes, if it
--- denotes one
-abbrev pub Answers : Type 0 → (ℕ → Option ℕ) → Ask → ℕ → Graph → Bool → Graph → Type 0
-Answers Exact place IsMarked object old answer new = (answer ≡ old.marked object) × (new ≡ old)
-Answers Exact place MarkChildren object old answer new = Gains Exact old new (IsLeadingBut old.objects false object)
-Answers Exact place MarkOthers object old answer new = Gains Exact old new (IsLeadingBut old.objects true object)
-Answers Exact place Mark object old answer new = Gains Exact old new (Leads old.objects object)
-Answers Exact place MarkAlone object old answer new = Gains Exact old new (λ a. a ≡ object)
-Answers Exact place Clear word old answer new = new ≡ record old { objects = written_at place word old.objects }
-Answers Exact place IsHolderMarked word old answer new = (answer ≡ is_held place old.objects old.marked word) × (new ≡ old)
-Answers Exact place AskMarks region old answer new = ⊥
+-- what an honest host answers, and the graph afterwards; for other commands than `MarkValue` any answer is accepted; `place` is the word of an object that a link
+-- or an ephemeron denotes, if it denotes one, and `value` is the object to which the word of an ephemeron points, if any
+abbrev pub Answers : Type 0 → (ℕ → Option ℕ) → (Map Object → ℕ → Option ℕ) → Ask → ℕ → Graph → Bool → Graph → Type 0
+Answers Exact place value IsMarked object old answer new = (answer ≡ old.marked object) × (new ≡ old)
+Answers Exact place value MarkChildren object old answer new = Gains Exact old new (IsLeadingBut old.objects false object)
+Answers Exact place value MarkOthers object old answer new = Gains Exact old new (IsLeadingBut old.objects true object)
+Answers Exact place value Mark object old answer new = Gains Exact old new (Leads old.objects object)
+Answers Exact place value MarkAlone object old answer new = Gains Exact old new (λ a. a ≡ object)
+Answers Exact place value Clear word old answer new = new ≡ record old { objects = written_at place word old.objects }
+Answers Exact place value IsHolderMarked word old answer new = (answer ≡ is_held place old.objects old.marked word) × (new ≡ old)
+Answers Exact place value MarkValue word old answer new =
+    Gains Exact old new (IsOfValue value old.objects word) × (IsFalse answer → (a : ℕ) → IsTrue (new.marked a) → IsTrue (old.marked a))
+Answers Exact place value AskMarks region old answer new = ⊥
 
 -- the host is bound only if the question may be asked; if nothing is asked, nothing changes
-abbrev pub IsHonest : Type 0 → (ℕ → Option ℕ) → Option Ask → ℕ → Graph → Bool → Graph → Type 0
-IsHonest Exact place (Some ask) subject old answer new = MayAsk ask subject old → Answers Exact place ask subject old answer new
-IsHonest Exact place None subject old answer new = new ≡ old
+abbrev pub IsHonest : Type 0 → (ℕ → Option ℕ) → (Map Object → ℕ → Option ℕ) → Option Ask → ℕ → Graph → Bool → Graph → Type 0
+IsHonest Exact place value (Some ask) subject old answer new = MayAsk ask subject old → Answers Exact place value ask subject old answer new
+IsHonest Exact place value None subject old answer new = new ≡ old
 
 -- what an honest host answers about a region: for each object that begins at one of its places, whether it is marked; for other places, anything
 abbrev pub IsHonestWord : Graph → ℕ → ℕ → Type 0
@@ -69,11 +73,17 @@ AreHonestWords g [] words = Unit {0}
 AreHonestWords g (r ∷ regions) [] = Unit {0}
 AreHonestWords g (r ∷ regions) (word ∷ words) = IsHonestWord g r.0 word × AreHonestWords g regions words
 
--- when a pass may begin: marking is complete, registered objects and targets of links are objects of the graph, and no two links denote one word
+-- a host without ephemerons has no values
+abbrev pub no_value : Map Object → ℕ → Option ℕ
+no_value objects word = None
+
+-- when a pass may begin: marking is complete, registered objects, targets of links and keys are objects of the graph, and no two links denote one word
 pub record MayBegin (place : ℕ → Option ℕ) (s : State) (g : Graph) : Type 0 where
   pub registered : AreRegistered g.objects s.registrations
   pub short : AreTargets g.objects s.short
   pub long : AreTargets g.objects s.long
+  pub short_keys : AreTargets g.objects s.ephemerons.short
+  pub long_keys : AreTargets g.objects s.ephemerons.long
   pub zero : points g.objects 0 ≡ None  -- a cleared word points to nothing
   pub closed : IsClosed g.objects g.marked
   pub births : (a : ℕ) (o : Object) → get g.objects a ≡ Some o → o.birth ≡ 0  -- no host is asked for births

@@ -8,6 +8,7 @@ use Rattle.fz_machine.specs.declared.pass.Next.{Next}
 use Rattle.fz_machine.specs.declared.phase.Phase.TheVariants.{Objects}
 use Rattle.fz_machine.specs.declared.question.Question.{Question}
 use Rattle.fz_machine.specs.declared.question.TheConstants.{BATCH}
+use Rattle.fz_machine.specs.Going.{ephemerons_in}
 use Rattle.fz_machine.specs.Regions.{items_in}
 use Rattle.fz_machine.specs.Machines.{Machine, AsksRegions, IsBegun, GoesTo, IsAbandoned, IsWorked, PassesOver}
 
@@ -21,9 +22,14 @@ pub data Hears (begun : Machine) : Machine → ℕ → Type 0 where
   Goes : {m new : Machine} {next : Next} {n : ℕ} (answers : List Bool) → length answers ≤ covered m → GoesTo m answers new next → Hears begun m n → Hears begun new (n + length answers)
   Meanwhile : {m new : Machine} {n : ℕ} → IsWorked m new → Hears begun m n → Hears begun new n
 
+-- how often ephemerons may be asked about, if there are so many: three phases process those of each kind, and each of four times the marks are made whole by three
+-- phases in each round, which are about all at first, and then about at least one fewer in each further round
+abbrev pub most_rows : ℕ → ℕ
+most_rows n = 3 * n + 6 * n * (n + 1)
+
 -- six phases process registrations, three phases process the links of each kind, and one phase processes the cleanups of each moment
 abbrev pub most_answers : State → ℕ
-most_answers s = 6 * len s.registrations + 3 * (len s.short + len s.long) + len s.cleanups
+most_answers s = 6 * len s.registrations + 3 * (len s.short + len s.long) + len s.cleanups + most_rows (ephemerons_in s)
 
 abbrev pub PassesEnd : Type 0
 PassesEnd = (old begun m : Machine) (n : ℕ) → IsBegun old begun → Hears begun m n → n ≤ most_answers old.finalizers.state

@@ -1,6 +1,6 @@
--- The items that phases process: links, registrations and cleanups.
+-- The items that phases process: links, ephemerons, registrations and cleanups.
 -- code: fz_machine/src/item.rt, listing.rt
-use Rattle.std.specs.Prelude.{◌≡◌, ℕ, ◌+◌, ◌*◌, ◌^◌, false, if◌then◌else◌, List, map, nat_eq, All}
+use Rattle.std.specs.Prelude.{◌≡◌, ℕ, ◌+◌, ◌*◌, ◌^◌, false, if◌then◌else◌, List, ◌++◌, map, nat_eq, All}
 use Rattle.std.specs.List.{IsDistinct}
 use Rattle.std.specs.List.Sorted.{IsPermutation, IsNonDecreasingBy}
 use Rattle.std.specs.Map.{keys_of}
@@ -8,6 +8,7 @@ use Rattle.std.specs.FinMap.{from_entries}
 use Rattle.std.specs.FinSet.{contains}
 use Rattle.fz_model.specs.declared.answers.Registration.{Registration}
 use Rattle.fz_model.specs.State.{Map}
+use Rattle.fz_pass.specs.Holds.{Ephemerons}
 use Rattle.fz_table.specs.declared.stored.Stored.{Stored}
 use Rattle.fz_table.specs.Tabled.{Set, plain}
 use Rattle.fz_model.specs.declared.kinds.LinkKind.{LinkKind}
@@ -17,7 +18,7 @@ use Rattle.fz_finalizers.specs.Cleanups.{AreDue, is_when}
 use Rattle.fz_finalizers.specs.Kinds.{of_table}
 use Rattle.fz_machine.specs.declared.item.Item.{Item}
 
--- a link
+-- a link, or an ephemeron with its word and its key
 abbrev pub of_link : ℕ × ℕ → Item
 of_link e = record { object = e.1; word = e.0; kind = Normal; turn = 0 }
 
@@ -43,6 +44,10 @@ AreEntriesOf m es = (from_entries es ≡ m) × IsDistinct nat_eq (keys_of es)
 -- the items are the links
 abbrev pub AreLinks : Map ℕ → List Item → Type 0
 AreLinks links items = (es : List (ℕ × ℕ)) × AreEntriesOf links es × (items ≡ map of_link es)
+
+-- the items are the ephemerons of both kinds: the short ones, then the long ones
+abbrev pub AreEphemerons : Ephemerons → List Item → Type 0
+AreEphemerons ephemerons items = (shorts : List Item) × (longs : List Item) × AreLinks ephemerons.short shorts × AreLinks ephemerons.long longs × (items ≡ shorts ++ longs)
 
 -- the items are the registrations, each with its flag
 abbrev pub AreObjects : Map Registration → Set → List Item → Type 0

@@ -6,8 +6,10 @@ use Rattle.std.specs.FinMap.{len}
 use Rattle.std.specs.Map.{keys_of}
 use Rattle.fz_model.specs.declared.answers.Entry.{Entry}
 use Rattle.fz_finalizers.specs.States.{State, View, view_code, waiting}
+use Rattle.fz_machine.specs.declared.phase.Moment.{Moment}
+use Rattle.fz_machine.specs.declared.phase.Moment.TheVariants.{First, Led, Picked, Last}
 use Rattle.fz_machine.specs.declared.phase.Phase.{Phase}
-use Rattle.fz_machine.specs.declared.phase.Phase.TheVariants.{ShortCleanups, ShortTargets, ShortWords, Objects, Children, Again, Picks, LateAgain, LatePicks, LongTargets, LongWords, ShortHolders, LongHolders, LongCleanups}
+use Rattle.fz_machine.specs.declared.phase.Phase.TheVariants.{Keys, KeysAgain, Holders, Values, ShortCleanups, ShortTargets, ShortWords, ShortKeys, ShortKeyWords, Objects, Children, Again, Picks, LateAgain, LatePicks, LongTargets, LongWords, LongKeys, LongKeyWords, ShortHolders, LongHolders, ShortKeyHolders, LongKeyHolders, LongCleanups}
 use Rattle.fz_machine.specs.declared.item.Item.{Item}
 use Rattle.fz_machine.specs.declared.question.Ask.TheVariants.{Marks}
 use Rattle.fz_machine.specs.declared.question.Question.{Question}
@@ -19,7 +21,7 @@ use Rattle.fz_machine.specs.declared.pass.Next.TheVariants.{Asks, Ended}
 use Rattle.fz_finalizers.specs.Follows.{Event, Follows, Take, TakeFinished, Finish, next_pass}
 use Rattle.fz_machine.specs.Going.{going, to_process}
 use Rattle.fz_machine.specs.Regions.{items_in, place_in}
-use Rattle.fz_machine.specs.Steps.{Begins, GoesOn, IsQuestion, steps}
+use Rattle.fz_machine.specs.Steps.{Begins, Going, GoesOn, IsQuestion, steps}
 use Rattle.fz_machine.specs.Walks.{Walk, walk_code}
 
 pub record Machine : Type 0 where
@@ -34,45 +36,93 @@ pub record Machine : Type 0 where
   pub tabled : ℕ  -- how many regions there are
   pub remaining : ℕ  -- how many of them remain while registered objects are processed by regions
 
-abbrev phase_code : Coded Phase
-phase_code = code_by ℕ coded_ℕ to back same
+abbrev moment_code : Coded Moment
+moment_code = code_by ℕ coded_ℕ to back same
   where
-    to : Phase → ℕ
-    to ShortCleanups = 0
-    to ShortTargets = 1
-    to ShortWords = 2
-    to Objects = 3
-    to Children = 4
-    to Again = 5
-    to Picks = 6
-    to LateAgain = 7
-    to LatePicks = 8
-    to LongTargets = 9
-    to LongWords = 10
-    to ShortHolders = 11
-    to LongHolders = 12
-    to LongCleanups = 13
+    to : Moment → ℕ
+    to First = 0
+    to Led = 1
+    to Picked = 2
+    to Last = 3
 
-    back : ℕ → Phase
-    back zero = ShortCleanups
-    back (suc zero) = ShortTargets
-    back (suc (suc zero)) = ShortWords
-    back (suc (suc (suc zero))) = Objects
-    back (suc (suc (suc (suc zero)))) = Children
-    back (suc (suc (suc (suc (suc zero))))) = Again
-    back (suc (suc (suc (suc (suc (suc zero)))))) = Picks
-    back (suc (suc (suc (suc (suc (suc (suc zero))))))) = LateAgain
-    back (suc (suc (suc (suc (suc (suc (suc (suc zero)))))))) = LatePicks
-    back (suc (suc (suc (suc (suc (suc (suc (suc (suc zero))))))))) = LongTargets
-    back (suc (suc (suc (suc (suc (suc (suc (suc (suc (suc zero)))))))))) = LongWords
-    back (suc (suc (suc (suc (suc (suc (suc (suc (suc (suc (suc zero))))))))))) = ShortHolders
-    back (suc (suc (suc (suc (suc (suc (suc (suc (suc (suc (suc (suc zero)))))))))))) = LongHolders
-    back (suc (suc (suc (suc (suc (suc (suc (suc (suc (suc (suc (suc (suc n))))))))))))) = LongCleanups
+    back : ℕ → Moment
+    back zero = First
+    back (suc zero) = Led
+    back (suc (suc zero)) = Picked
+    back (suc (suc (suc n))) = Last
 
-    same : (p : Phase) → back (to p) ≡ p
+    same : (m : Moment) → back (to m) ≡ m
+    same First = refl
+    same Led = refl
+    same Picked = refl
+    same Last = refl
+
+-- a phase is told by a number, and by its moment if it has one
+abbrev phase_code : Coded Phase
+phase_code = code_by (ℕ × Moment) (coded× coded_ℕ moment_code) to (λ p. back p.1 p.0) same
+  where
+    to : Phase → ℕ × Moment
+    to (Keys moment) = (0, moment)
+    to (KeysAgain moment) = (1, moment)
+    to (Holders moment) = (2, moment)
+    to (Values moment) = (3, moment)
+    to ShortCleanups = (4, First)
+    to ShortTargets = (5, First)
+    to ShortWords = (6, First)
+    to ShortKeys = (7, First)
+    to ShortKeyWords = (8, First)
+    to Objects = (9, First)
+    to Children = (10, First)
+    to Again = (11, First)
+    to Picks = (12, First)
+    to LateAgain = (13, First)
+    to LatePicks = (14, First)
+    to LongTargets = (15, First)
+    to LongWords = (16, First)
+    to LongKeys = (17, First)
+    to LongKeyWords = (18, First)
+    to ShortHolders = (19, First)
+    to LongHolders = (20, First)
+    to ShortKeyHolders = (21, First)
+    to LongKeyHolders = (22, First)
+    to LongCleanups = (23, First)
+
+    back : Moment → ℕ → Phase
+    back moment zero = Keys moment
+    back moment (suc zero) = KeysAgain moment
+    back moment (suc (suc zero)) = Holders moment
+    back moment (suc (suc (suc zero))) = Values moment
+    back moment (suc (suc (suc (suc zero)))) = ShortCleanups
+    back moment (suc (suc (suc (suc (suc zero))))) = ShortTargets
+    back moment (suc (suc (suc (suc (suc (suc zero)))))) = ShortWords
+    back moment (suc (suc (suc (suc (suc (suc (suc zero))))))) = ShortKeys
+    back moment (suc (suc (suc (suc (suc (suc (suc (suc zero)))))))) = ShortKeyWords
+    back moment (suc (suc (suc (suc (suc (suc (suc (suc (suc zero))))))))) = Objects
+    back moment (suc (suc (suc (suc (suc (suc (suc (suc (suc (suc zero)))))))))) = Children
+    back moment (suc (suc (suc (suc (suc (suc (suc (suc (suc (suc (suc zero))))))))))) = Again
+    back moment (suc (suc (suc (suc (suc (suc (suc (suc (suc (suc (suc (suc zero)))))))))))) = Picks
+    back moment (suc (suc (suc (suc (suc (suc (suc (suc (suc (suc (suc (suc (suc zero))))))))))))) = LateAgain
+    back moment (suc (suc (suc (suc (suc (suc (suc (suc (suc (suc (suc (suc (suc (suc zero)))))))))))))) = LatePicks
+    back moment (suc (suc (suc (suc (suc (suc (suc (suc (suc (suc (suc (suc (suc (suc (suc zero))))))))))))))) = LongTargets
+    back moment (suc (suc (suc (suc (suc (suc (suc (suc (suc (suc (suc (suc (suc (suc (suc (suc zero)))))))))))))))) = LongWords
+    back moment (suc (suc (suc (suc (suc (suc (suc (suc (suc (suc (suc (suc (suc (suc (suc (suc (suc zero))))))))))))))))) = LongKeys
+    back moment (suc (suc (suc (suc (suc (suc (suc (suc (suc (suc (suc (suc (suc (suc (suc (suc (suc (suc zero)))))))))))))))))) = LongKeyWords
+    back moment (suc (suc (suc (suc (suc (suc (suc (suc (suc (suc (suc (suc (suc (suc (suc (suc (suc (suc (suc zero))))))))))))))))))) = ShortHolders
+    back moment (suc (suc (suc (suc (suc (suc (suc (suc (suc (suc (suc (suc (suc (suc (suc (suc (suc (suc (suc (suc zero)))))))))))))))))))) = LongHolders
+    back moment (suc (suc (suc (suc (suc (suc (suc (suc (suc (suc (suc (suc (suc (suc (suc (suc (suc (suc (suc (suc (suc zero))))))))))))))))))))) = ShortKeyHolders
+    back moment (suc (suc (suc (suc (suc (suc (suc (suc (suc (suc (suc (suc (suc (suc (suc (suc (suc (suc (suc (suc (suc (suc zero)))))))))))))))))))))) = LongKeyHolders
+    back moment (suc (suc (suc (suc (suc (suc (suc (suc (suc (suc (suc (suc (suc (suc (suc (suc (suc (suc (suc (suc (suc (suc (suc n))))))))))))))))))))))) = LongCleanups
+
+    same : (p : Phase) → back (to p).1 (to p).0 ≡ p
+    same (Keys moment) = refl
+    same (KeysAgain moment) = refl
+    same (Holders moment) = refl
+    same (Values moment) = refl
     same ShortCleanups = refl
     same ShortTargets = refl
     same ShortWords = refl
+    same ShortKeys = refl
+    same ShortKeyWords = refl
     same Objects = refl
     same Children = refl
     same Again = refl
@@ -81,8 +131,12 @@ phase_code = code_by ℕ coded_ℕ to back same
     same LatePicks = refl
     same LongTargets = refl
     same LongWords = refl
+    same LongKeys = refl
+    same LongKeyWords = refl
     same ShortHolders = refl
     same LongHolders = refl
+    same ShortKeyHolders = refl
+    same LongKeyHolders = refl
     same LongCleanups = refl
 
 abbrev pub machine_code : Coded Machine
@@ -138,11 +192,15 @@ pub record IsWorked (old new : Machine) : Type 0 where
   pub follows : Follows old.finalizers.state event new.finalizers.state
   pub keeps : KeepsPass old new
 
+-- nothing is listed yet
+abbrev pub at_begin : State → Going
+at_begin s = record { finalizers = s; kept = []; left = []; aside = []; off = [] }
+
 -- a pass has begun
 pub record IsBegun (old new : Machine) : Type 0 where
-  pub phase : new.phase ≡ Some ShortCleanups
+  pub phase : new.phase ≡ Some (Keys First)
   pub finalizers : new.finalizers.state ≡ record old.finalizers.state { passes = next_pass old.finalizers.passes }
-  pub begins : Begins ShortCleanups (record (going old.finalizers old.walk) { finalizers = new.finalizers.state }) (going new.finalizers new.walk)
+  pub begins : Begins (Keys First) (at_begin new.finalizers.state) (going new.finalizers new.walk)
   pub asked : new.asked ≡ 0
   pub regions : new.regions ≡ []
   pub before : new.before ≡ length old.finalizers.queue

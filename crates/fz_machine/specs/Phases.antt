@@ -1,6 +1,6 @@
 -- The phases of a pass: each processes a list, with one question for each item.
 -- code: fz_machine/src/phase.rt, listing.rt
-use Rattle.std.specs.Prelude.{◌≡◌, ℕ, Bool, true, false, not, if◌then◌else◌, List, Option, Some, None}
+use Rattle.std.specs.Prelude.{◌≡◌, ℕ, Bool, true, false, not, if◌then◌else◌, List, [], ◌∷◌, Option, Some, None}
 use Rattle.std.specs.FinMap.{remove}
 use Rattle.fz_model.specs.declared.kinds.LinkKind.TheVariants.{Short, Long}
 use Rattle.fz_finalizers.specs.declared.kinds.Kind.{Kind}
@@ -8,28 +8,66 @@ use Rattle.fz_finalizers.specs.declared.kinds.Kind.TheVariants.{Normal, IgnoreSe
 use Rattle.fz_finalizers.specs.Follows.{queued_cleanup, queued_object}
 use Rattle.fz_finalizers.specs.Kinds.{is_late}
 use Rattle.fz_finalizers.specs.States.{State}
+use Rattle.fz_pass.specs.Keyed.{without_ephemeron}
 use Rattle.fz_machine.specs.declared.item.Item.{Item}
+use Rattle.fz_machine.specs.declared.phase.Moment.{Moment}
+use Rattle.fz_machine.specs.declared.phase.Moment.TheVariants.{First, Led, Picked, Last}
 use Rattle.fz_machine.specs.declared.phase.Phase.{Phase}
-use Rattle.fz_machine.specs.declared.phase.Phase.TheVariants.{ShortCleanups, ShortTargets, ShortWords, Objects, Children, Again, Picks, LateAgain, LatePicks, LongTargets, LongWords, ShortHolders, LongHolders, LongCleanups}
+use Rattle.fz_machine.specs.declared.phase.Phase.TheVariants.{Keys, KeysAgain, Holders, Values, ShortCleanups, ShortTargets, ShortWords, ShortKeys, ShortKeyWords, Objects, Children, Again, Picks, LateAgain, LatePicks, LongTargets, LongWords, LongKeys, LongKeyWords, ShortHolders, LongHolders, ShortKeyHolders, LongKeyHolders, LongCleanups}
 use Rattle.fz_machine.specs.declared.question.Ask.{Ask}
-use Rattle.fz_machine.specs.declared.question.Ask.TheVariants.{IsMarked, MarkChildren, MarkOthers, Mark, MarkAlone, Clear, IsHolderMarked}
-use Rattle.fz_machine.specs.Items.{AreCleanups, AreLinks, AreObjects, AreInTurn}
+use Rattle.fz_machine.specs.declared.question.Ask.TheVariants.{IsMarked, MarkChildren, MarkOthers, Mark, MarkAlone, Clear, IsHolderMarked, MarkValue}
+use Rattle.fz_machine.specs.Items.{AreCleanups, AreEphemerons, AreLinks, AreObjects, AreInTurn}
 
-abbrev pub next_phase : Phase → Option Phase
-next_phase ShortCleanups = Some ShortTargets
-next_phase ShortTargets = Some ShortWords
-next_phase ShortWords = Some Objects
-next_phase Objects = Some Children
-next_phase Children = Some Again
-next_phase Again = Some Picks
-next_phase Picks = Some LateAgain
-next_phase LateAgain = Some LatePicks
-next_phase LatePicks = Some LongTargets
-next_phase LongTargets = Some LongWords
-next_phase LongWords = Some ShortHolders
-next_phase ShortHolders = Some LongHolders
-next_phase LongHolders = Some LongCleanups
-next_phase LongCleanups = None
+-- the phase in which the pass goes on once the marks are whole
+abbrev pub behind : Moment → Phase
+behind First = ShortCleanups
+behind Led = Again
+behind Picked = LateAgain
+behind Last = LongTargets
+
+-- the next phase, given the items that this one has kept: while values are marked, the ephemerons that were put off are looked at again
+abbrev pub next_phase : Phase → List Item → Option Phase
+next_phase (Keys moment) kept = Some (Holders moment)
+next_phase (KeysAgain moment) kept = Some (Holders moment)
+next_phase (Holders moment) kept = Some (Values moment)
+next_phase (Values moment) [] = Some (behind moment)
+next_phase (Values moment) (item ∷ kept) = Some (KeysAgain moment)
+next_phase ShortCleanups kept = Some ShortTargets
+next_phase ShortTargets kept = Some ShortWords
+next_phase ShortWords kept = Some ShortKeys
+next_phase ShortKeys kept = Some ShortKeyWords
+next_phase ShortKeyWords kept = Some Objects
+next_phase Objects kept = Some Children
+next_phase Children kept = Some (Keys Led)
+next_phase Again kept = Some Picks
+next_phase Picks kept = Some (Keys Picked)
+next_phase LateAgain kept = Some LatePicks
+next_phase LatePicks kept = Some (Keys Last)
+next_phase LongTargets kept = Some LongWords
+next_phase LongWords kept = Some LongKeys
+next_phase LongKeys kept = Some LongKeyWords
+next_phase LongKeyWords kept = Some ShortHolders
+next_phase ShortHolders kept = Some LongHolders
+next_phase LongHolders kept = Some ShortKeyHolders
+next_phase ShortKeyHolders kept = Some LongKeyHolders
+next_phase LongKeyHolders kept = Some LongCleanups
+next_phase LongCleanups kept = None
+
+-- the phases that make the marks whole; their lists are of ephemerons, while another list is set aside
+abbrev pub settles : Phase → Bool
+settles (Keys moment) = true
+settles (KeysAgain moment) = true
+settles (Holders moment) = true
+settles (Values moment) = true
+settles phase = false
+
+abbrev pub settles_in : Option Phase → Bool
+settles_in (Some phase) = settles phase
+settles_in None = false
+
+abbrev pub is_objects : Phase → Bool
+is_objects Objects = true
+is_objects phase = false
 
 -- the command that marks the children of an unmarked object, by its kind
 abbrev pub child_ask : Kind → Option Ask
@@ -47,9 +85,15 @@ pick_ask Unreachable = None
 
 -- what a phase asks about an item
 abbrev pub asks : Phase → Item → Option Ask
+asks (Keys moment) item = Some IsMarked
+asks (KeysAgain moment) item = Some IsMarked
+asks (Holders moment) item = Some IsHolderMarked
+asks (Values moment) item = Some MarkValue
 asks ShortCleanups item = Some IsMarked
 asks ShortTargets item = Some IsMarked
 asks ShortWords item = Some Clear
+asks ShortKeys item = Some IsMarked
+asks ShortKeyWords item = Some Clear
 asks Objects item = Some IsMarked
 asks Children item = child_ask item.kind
 asks Again item = Some IsMarked
@@ -58,15 +102,25 @@ asks LateAgain item = Some IsMarked
 asks LatePicks item = Some MarkAlone
 asks LongTargets item = Some IsMarked
 asks LongWords item = Some Clear
+asks LongKeys item = Some IsMarked
+asks LongKeyWords item = Some Clear
 asks ShortHolders item = Some IsHolderMarked
 asks LongHolders item = Some IsHolderMarked
+asks ShortKeyHolders item = Some IsHolderMarked
+asks LongKeyHolders item = Some IsHolderMarked
 asks LongCleanups item = Some IsMarked
 
 -- the object or the word that it asks about
 abbrev pub subject : Phase → Item → ℕ
+subject (Keys moment) item = item.object
+subject (KeysAgain moment) item = item.object
+subject (Holders moment) item = item.word
+subject (Values moment) item = item.word
 subject ShortCleanups item = item.object
 subject ShortTargets item = item.object
 subject ShortWords item = item.word
+subject ShortKeys item = item.object
+subject ShortKeyWords item = item.word
 subject Objects item = item.object
 subject Children item = item.object
 subject Again item = item.object
@@ -75,15 +129,26 @@ subject LateAgain item = item.object
 subject LatePicks item = item.object
 subject LongTargets item = item.object
 subject LongWords item = item.word
+subject LongKeys item = item.object
+subject LongKeyWords item = item.word
 subject ShortHolders item = item.word
 subject LongHolders item = item.word
+subject ShortKeyHolders item = item.word
+subject LongKeyHolders item = item.word
 subject LongCleanups item = item.object
 
--- whether the next phase processes the item, too, given the answer: it does if the object isn't marked
+-- whether the next phase processes the item, too, given the answer: it does if the object isn't marked; an ephemeron if its key or holder is. A value whose
+-- marking may have marked something is kept as a sign of that
 abbrev pub keeps : Phase → Item → Bool → Bool
+keeps (Keys moment) item answer = answer
+keeps (KeysAgain moment) item answer = answer
+keeps (Holders moment) item answer = answer
+keeps (Values moment) item answer = answer
 keeps ShortCleanups item answer = false
 keeps ShortTargets item answer = not answer
 keeps ShortWords item answer = false
+keeps ShortKeys item answer = not answer
+keeps ShortKeyWords item answer = false
 keeps Objects item answer = not answer
 keeps Children item answer = true
 keeps Again item answer = not answer
@@ -92,9 +157,20 @@ keeps LateAgain item answer = not answer
 keeps LatePicks item answer = false
 keeps LongTargets item answer = not answer
 keeps LongWords item answer = false
+keeps LongKeys item answer = not answer
+keeps LongKeyWords item answer = false
 keeps ShortHolders item answer = false
 keeps LongHolders item answer = false
+keeps ShortKeyHolders item answer = false
+keeps LongKeyHolders item answer = false
 keeps LongCleanups item answer = false
+
+-- whether the ephemeron is put off: its key or its holder isn't marked
+abbrev pub puts_off : Phase → Bool → Bool
+puts_off (Keys moment) answer = not answer
+puts_off (KeysAgain moment) answer = not answer
+puts_off (Holders moment) answer = not answer
+puts_off phase answer = false
 
 abbrev without_short : State → ℕ → State
 without_short s word = record s { short = remove s.short word }
@@ -102,12 +178,21 @@ without_short s word = record s { short = remove s.short word }
 abbrev without_long : State → ℕ → State
 without_long s word = record s { long = remove s.long word }
 
--- how the finalizers change: a cleared link is removed, and so is one whose containing object isn't marked; a picked object is queued,
+abbrev pub without_key : State → ℕ → State
+without_key s word = record s { ephemerons = without_ephemeron s.ephemerons word }
+
+-- how the finalizers change: a cleared link or ephemeron is removed, and so is one whose containing object isn't marked; a picked object is queued,
 -- and so is a cleanup whose object isn't marked
 abbrev pub after : Phase → Item → Bool → State → State
+after (Keys moment) item answer s = s
+after (KeysAgain moment) item answer s = s
+after (Holders moment) item answer s = s
+after (Values moment) item answer s = s
 after ShortCleanups item answer s = if answer then s else queued_cleanup s item.word
 after ShortTargets item answer s = s
 after ShortWords item answer s = without_short s item.word
+after ShortKeys item answer s = s
+after ShortKeyWords item answer s = without_key s item.word
 after Objects item answer s = s
 after Children item answer s = s
 after Again item answer s = s
@@ -116,23 +201,62 @@ after LateAgain item answer s = s
 after LatePicks item answer s = queued_object s item.object
 after LongTargets item answer s = s
 after LongWords item answer s = without_long s item.word
+after LongKeys item answer s = s
+after LongKeyWords item answer s = without_key s item.word
 after ShortHolders item answer s = if answer then s else without_short s item.word
 after LongHolders item answer s = if answer then s else without_long s item.word
+after ShortKeyHolders item answer s = if answer then s else without_key s item.word
+after LongKeyHolders item answer s = if answer then s else without_key s item.word
 after LongCleanups item answer s = if answer then s else queued_cleanup s item.word
 
--- the list that a phase processes, given what the previous phase kept
+-- the list that a phase gets: what the previous phase kept, what was put off, or what was set aside
+abbrev pub given : Phase → List Item → List Item → List Item → List Item
+given (KeysAgain moment) kept aside off = off
+given Again kept aside off = aside
+given LateAgain kept aside off = aside
+given phase kept aside off = kept
+
+-- what is set aside when a phase begins, and what is put off
+abbrev pub aside_in : Phase → List Item → List Item → List Item
+aside_in (Keys moment) kept aside = kept
+aside_in ShortCleanups kept aside = []
+aside_in Again kept aside = []
+aside_in LateAgain kept aside = []
+aside_in LongTargets kept aside = []
+aside_in phase kept aside = aside
+
+abbrev pub off_in : Phase → List Item → List Item
+off_in (Keys moment) off = []
+off_in (KeysAgain moment) off = []
+off_in ShortCleanups off = []
+off_in Again off = []
+off_in LateAgain off = []
+off_in LongTargets off = []
+off_in phase off = off
+
+-- the list that a phase processes, given the list that it gets
 abbrev pub Lists : Phase → State → List Item → List Item → Type 0
-Lists ShortCleanups s kept items = AreCleanups Short s.cleanups items
-Lists ShortTargets s kept items = AreLinks s.short items
-Lists ShortWords s kept items = items ≡ kept
-Lists Objects s kept items = AreObjects s.registrations s.late items
-Lists Children s kept items = items ≡ kept
-Lists Again s kept items = items ≡ kept
-Lists Picks s kept items = AreInTurn kept items
-Lists LateAgain s kept items = items ≡ kept
-Lists LatePicks s kept items = items ≡ kept
-Lists LongTargets s kept items = AreLinks s.long items
-Lists LongWords s kept items = items ≡ kept
-Lists ShortHolders s kept items = AreLinks s.short items
-Lists LongHolders s kept items = AreLinks s.long items
-Lists LongCleanups s kept items = AreCleanups Long s.cleanups items
+Lists (Keys moment) s given items = AreEphemerons s.ephemerons items
+Lists (KeysAgain moment) s given items = items ≡ given
+Lists (Holders moment) s given items = items ≡ given
+Lists (Values moment) s given items = items ≡ given
+Lists ShortCleanups s given items = AreCleanups Short s.cleanups items
+Lists ShortTargets s given items = AreLinks s.short items
+Lists ShortWords s given items = items ≡ given
+Lists ShortKeys s given items = AreLinks s.ephemerons.short items
+Lists ShortKeyWords s given items = items ≡ given
+Lists Objects s given items = AreObjects s.registrations s.late items
+Lists Children s given items = items ≡ given
+Lists Again s given items = items ≡ given
+Lists Picks s given items = AreInTurn given items
+Lists LateAgain s given items = items ≡ given
+Lists LatePicks s given items = items ≡ given
+Lists LongTargets s given items = AreLinks s.long items
+Lists LongWords s given items = items ≡ given
+Lists LongKeys s given items = AreLinks s.ephemerons.long items
+Lists LongKeyWords s given items = items ≡ given
+Lists ShortHolders s given items = AreLinks s.short items
+Lists LongHolders s given items = AreLinks s.long items
+Lists ShortKeyHolders s given items = AreLinks s.ephemerons.short items
+Lists LongKeyHolders s given items = AreLinks s.ephemerons.long items
+Lists LongCleanups s given items = AreCleanups Long s.cleanups items

@@ -1,8 +1,10 @@
 -- Runs of a pass over a graph, and their result.
 -- code: fz_machine/src/law.rt
 use Rattle.std.specs.Prelude.{◌≡◌, ℕ, Bool, List, [], ◌∷◌, Option, None, Some, IsTrue}
+use Rattle.fz_model.specs.State.{Map, Object}
+use Rattle.fz_pass.specs.Holds.{no_ephemerons}
 use Rattle.fz_pass.specs.Marks.{IsClosed}
-use Rattle.fz_finalizers.specs.Passed.{PassesFor}
+use Rattle.fz_finalizers.specs.Passed.{PassesFor, PassesWhole}
 use Rattle.fz_finalizers.specs.Promises.{IsReached, Past}
 use Rattle.fz_finalizers.specs.States.{State}
 use Rattle.fz_machine.specs.declared.item.Item.{Item}
@@ -16,49 +18,63 @@ use Rattle.fz_machine.specs.Machines.{Machine, AsksRegions, IsBegun, GoesTo, IsW
 use Rattle.fz_machine.specs.Phases.{asks, subject}
 
 -- true answers about the first items, one after another, while the graph changes
-abbrev pub AreHonest : Type 0 → (ℕ → Option ℕ) → Phase → List Bool → List Item → Graph → Graph → Type 0
-AreHonest Exact place phase [] items old new = new ≡ old
-AreHonest Exact place phase (answer ∷ answers) [] old new = ⊥
-AreHonest Exact place phase (answer ∷ answers) (item ∷ items) old new =
-    (between : Graph) × IsHonest Exact place (asks phase item) (subject phase item) old answer between × AreHonest Exact place phase answers items between new
+abbrev pub AreHonest : Type 0 → (ℕ → Option ℕ) → (Map Object → ℕ → Option ℕ) → Phase → List Bool → List Item → Graph → Graph → Type 0
+AreHonest Exact place value phase [] items old new = new ≡ old
+AreHonest Exact place value phase (answer ∷ answers) [] old new = ⊥
+AreHonest Exact place value phase (answer ∷ answers) (item ∷ items) old new =
+    (between : Graph) × IsHonest Exact place value (asks phase item) (subject phase item) old answer between × AreHonest Exact place value phase answers items between new
 
 -- from the begin of a pass, by questions that an honest host has answered; meanwhile workers take and finish entries
-pub data Runs (Exact : Type 0) (place : ℕ → Option ℕ) (begun : Machine) (before : Graph) : Machine → Graph → Type 0 where
-  Begun : Runs Exact place begun before begun before
+pub data Runs (Exact : Type 0) (place : ℕ → Option ℕ) (value : Map Object → ℕ → Option ℕ) (begun : Machine) (before : Graph) : Machine → Graph → Type 0 where
+  Begun : Runs Exact place value begun before begun before
   Goes : {m new : Machine} {g after : Graph} {next : Next} (answers : List Bool) (goes : GoesTo m answers new next)
-      → Runs Exact place begun before m g → AreHonest Exact place goes.phase answers m.walk.left g after → Runs Exact place begun before new after
-  Meanwhile : {m new : Machine} {g : Graph} → IsWorked m new → Runs Exact place begun before m g → Runs Exact place begun before new g
+      → Runs Exact place value begun before m g → AreHonest Exact place value goes.phase answers m.walk.left g after → Runs Exact place value begun before new after
+  Meanwhile : {m new : Machine} {g : Graph} → IsWorked m new → Runs Exact place value begun before m g → Runs Exact place value begun before new g
 
--- as for `Finalizers::pass`: what the model queues and decides, and that marks stay and are closed; what is taken and finished meanwhile might as well be taken
+-- as for `Finalizers::pass_with_ephemerons`: what the model queues and decides, and that marks stay and are closed; what is taken and finished meanwhile might as well be taken
 -- and finished after the pass
-pub record MakesPass (Exact : Type 0) (place : ℕ → Option ℕ) (old : State) (before : Graph) (new : State) (after : Graph) : Type 0 where
+pub record MakesPass (Exact : Type 0) (place : ℕ → Option ℕ) (value : Map Object → ℕ → Option ℕ) (old : State) (before : Graph) (new : State) (after : Graph) : Type 0 where
   pub passed : State
-  pub passes : PassesFor Exact place old before.objects before.marked passed after.objects after.marked
+  pub passes : PassesWhole Exact place value old before.objects before.marked passed after.objects after.marked
   pub works : Works passed new
   pub marks : (a : ℕ) → IsTrue (before.marked a) → IsTrue (after.marked a)
   pub closed : IsClosed after.objects after.marked
 
 -- after any calls of the finalizers, a run whose answers are true of a graph carries out the pass
 abbrev pub RunsPass : Type 0 → Type 0
-RunsPass Exact = (place : ℕ → Option ℕ) (old begun new : Machine) (past : Past) (before after : Graph)
-    → IsReached old.finalizers.state past → IsBegun old begun → MayBegin place old.finalizers.state before → Runs Exact place begun before new after → new.phase ≡ None
-    → MakesPass Exact place old.finalizers.state before new.finalizers.state after
+RunsPass Exact = (place : ℕ → Option ℕ) (value : Map Object → ℕ → Option ℕ) (old begun new : Machine) (past : Past) (before after : Graph)
+    → IsReached old.finalizers.state past → IsBegun old begun → MayBegin place old.finalizers.state before → Runs Exact place value begun before new after → new.phase ≡ None
+    → MakesPass Exact place value old.finalizers.state before new.finalizers.state after
+
+-- as for `Finalizers::pass`
+pub record MakesPlainPass (Exact : Type 0) (place : ℕ → Option ℕ) (old : State) (before : Graph) (new : State) (after : Graph) : Type 0 where
+  pub passed : State
+  pub passes : PassesFor Exact place old before.objects before.marked passed after.objects after.marked
+  pub works : Works passed new
+  pub marks : (a : ℕ) → IsTrue (before.marked a) → IsTrue (after.marked a)
+  pub closed : IsClosed after.objects after.marked
+
+-- without ephemerons it carries out a pass that doesn't know of them
+abbrev pub RunsPlainPass : Type 0 → Type 0
+RunsPlainPass Exact = (place : ℕ → Option ℕ) (value : Map Object → ℕ → Option ℕ) (old begun new : Machine) (past : Past) (before after : Graph)
+    → IsReached old.finalizers.state past → old.finalizers.state.ephemerons ≡ no_ephemerons → IsBegun old begun → MayBegin place old.finalizers.state before → Runs Exact place value begun before new after → new.phase ≡ None
+    → MakesPlainPass Exact place old.finalizers.state before new.finalizers.state after
 
 -- the first item may be asked about, and each later one after true answers about those before it
-abbrev pub AreAskable : Type 0 → (ℕ → Option ℕ) → Phase → List Item → Graph → Type 0
-AreAskable Exact place phase [] g = Unit {0}
-AreAskable Exact place phase (item ∷ items) g =
+abbrev pub AreAskable : Type 0 → (ℕ → Option ℕ) → (Map Object → ℕ → Option ℕ) → Phase → List Item → Graph → Type 0
+AreAskable Exact place value phase [] g = Unit {0}
+AreAskable Exact place value phase (item ∷ items) g =
     MayBeAsked (asks phase item) (subject phase item) g
-    × ((answer : Bool) (between : Graph) → IsHonest Exact place (asks phase item) (subject phase item) g answer between → AreAskable Exact place phase items between)
+    × ((answer : Bool) (between : Graph) → IsHonest Exact place value (asks phase item) (subject phase item) g answer between → AreAskable Exact place value phase items between)
 
 -- a host that answers for a graph is asked only what it may be asked
 abbrev pub AsksRightly : Type 0 → Type 0
-AsksRightly Exact = (place : ℕ → Option ℕ) (old begun new : Machine) (past : Past) (before after : Graph) (phase : Phase)
-    → IsReached old.finalizers.state past → IsBegun old begun → MayBegin place old.finalizers.state before → Runs Exact place begun before new after → new.phase ≡ Some phase
-    → AreAskable Exact place phase new.walk.left after
+AsksRightly Exact = (place : ℕ → Option ℕ) (value : Map Object → ℕ → Option ℕ) (old begun new : Machine) (past : Past) (before after : Graph) (phase : Phase)
+    → IsReached old.finalizers.state past → IsBegun old begun → MayBegin place old.finalizers.state before → Runs Exact place value begun before new after → new.phase ≡ Some phase
+    → AreAskable Exact place value phase new.walk.left after
 
 -- words that are true of a graph about the regions of a question are true answers about the items in them
 abbrev pub WordsAreAnswers : Type 0 → Type 0
-WordsAreAnswers Exact = (place : ℕ → Option ℕ) (old begun m : Machine) (past : Past) (before g : Graph) (question : Question) (words : List ℕ)
-    → IsReached old.finalizers.state past → IsBegun old begun → MayBegin place old.finalizers.state before → Runs Exact place begun before m g → m.phase ≡ Some Objects → AsksRegions m Objects question → AreHonestWords g m.regions words
-    → AreHonest Exact place Objects (marks_say m.finalizers.state m.regions words) m.walk.left g g
+WordsAreAnswers Exact = (place : ℕ → Option ℕ) (value : Map Object → ℕ → Option ℕ) (old begun m : Machine) (past : Past) (before g : Graph) (question : Question) (words : List ℕ)
+    → IsReached old.finalizers.state past → IsBegun old begun → MayBegin place old.finalizers.state before → Runs Exact place value begun before m g → m.phase ≡ Some Objects → AsksRegions m Objects question → AreHonestWords g m.regions words
+    → AreHonest Exact place value Objects (marks_say m.finalizers.state m.regions words) m.walk.left g g

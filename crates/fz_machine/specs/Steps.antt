@@ -6,13 +6,15 @@ use Rattle.fz_machine.specs.declared.item.Item.{Item}
 use Rattle.fz_machine.specs.declared.phase.Phase.{Phase}
 use Rattle.fz_machine.specs.declared.question.Question.{Question}
 use Rattle.fz_machine.specs.declared.question.TheConstants.{BATCH}
-use Rattle.fz_machine.specs.Phases.{next_phase, asks, subject, keeps, after, Lists}
+use Rattle.fz_machine.specs.Phases.{next_phase, asks, subject, keeps, puts_off, after, given, aside_in, off_in, Lists}
 
--- a phase in progress: the finalizers, the items kept for the next phase, and the remaining ones
+-- a phase in progress: the finalizers, the items kept for the next phase, the remaining ones, those set aside, and those put off
 pub record Going : Type 0 where
   pub finalizers : State
   pub kept : List Item
   pub left : List Item
+  pub aside : List Item
+  pub off : List Item
 
 -- the effect of the answer about the first remaining item
 abbrev pub stepped : Phase → Bool → Going → List Item → Going
@@ -21,6 +23,8 @@ stepped phase answer g (item ∷ left) = record {
   finalizers = after phase item answer g.finalizers;
   kept = if keeps phase item answer then g.kept ++ item ∷ [] else g.kept;
   left = left;
+  aside = g.aside;
+  off = if puts_off phase answer then g.off ++ item ∷ [] else g.off;
 }
 
 abbrev pub step : Phase → Bool → Going → Going
@@ -43,13 +47,15 @@ skip phase g = skipped phase g.left g
 pub record Begins (phase : Phase) (old new : Going) : Type 0 where
   pub same : new.finalizers ≡ old.finalizers
   pub none : new.kept ≡ []
-  pub lists : Lists phase old.finalizers old.kept new.left
+  pub lists : Lists phase old.finalizers (given phase old.kept old.aside old.off) new.left
+  pub aside : new.aside ≡ aside_in phase old.kept old.aside
+  pub off : new.off ≡ off_in phase old.off
 
 -- proceeding to the first phase with something to ask, or to the end
 pub data GoesOn : Phase → Going → Option Phase → Going → Type 0 where
   Asks : {phase : Phase} {g : Going} (item : Item) (left : List Item) → (skip phase g).left ≡ item ∷ left → GoesOn phase g (Some phase) (skip phase g)
-  Turns : {phase next : Phase} {g h k : Going} {last : Option Phase} → (skip phase g).left ≡ [] → next_phase phase ≡ Some next → Begins next (skip phase g) h → GoesOn next h last k → GoesOn phase g last k
-  Ends : {phase : Phase} {g : Going} → (skip phase g).left ≡ [] → next_phase phase ≡ None → GoesOn phase g None (skip phase g)
+  Turns : {phase next : Phase} {g h k : Going} {last : Option Phase} → (skip phase g).left ≡ [] → next_phase phase (skip phase g).kept ≡ Some next → Begins next (skip phase g) h → GoesOn next h last k → GoesOn phase g last k
+  Ends : {phase : Phase} {g : Going} → (skip phase g).left ≡ [] → next_phase phase (skip phase g).kept ≡ None → GoesOn phase g None (skip phase g)
 
 -- a question about the first remaining items: as many as fit, about which the same is asked
 pub record IsQuestion (phase : Phase) (left : List Item) (q : Question) : Type 0 where

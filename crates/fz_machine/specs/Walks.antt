@@ -1,4 +1,4 @@
--- The model of a list that a phase processes: the kept items, the remaining ones, and for how many there is room.
+-- The model of the list that a phase processes, and of the lists beside it.
 -- code: fz_machine/src/walk.rt
 use Rattle.std.specs.Prelude.{◌≡◌, ℕ, zero, suc, List, refl}
 use Rattle.std.specs.Coded.{Coded, code_by, coded×, coded_ℕ, coded_list}
@@ -9,7 +9,11 @@ use Rattle.fz_machine.specs.declared.item.Item.{Item}
 pub record Walk : Type 0 where
   pub kept : List Item
   pub left : List Item
-  pub room : ℕ
+  pub aside : List Item  -- what is set aside while the marks are made whole
+  pub off : List Item  -- the ephemerons that are put off
+  pub room : ℕ  -- for how many items the list has room
+  pub other : ℕ  -- for how many the list has that is set aside, or that ephemerons are listed in
+  pub off_room : ℕ  -- how many ephemerons can be put off
 
 abbrev kind_code : Coded Kind
 kind_code = code_by ℕ coded_ℕ to back same
@@ -39,5 +43,7 @@ item_code =
 
 abbrev pub walk_code : Coded Walk
 walk_code =
-    code_by (List Item × (List Item × ℕ)) (coded× (coded_list item_code) (coded× (coded_list item_code) coded_ℕ)) (λ w. (w.kept, (w.left, w.room)))
-    (λ p. record { kept = p.0; left = p.1.0; room = p.1.1 }) (λ _. refl)
+    code_by ((List Item × List Item) × ((List Item × List Item) × (ℕ × (ℕ × ℕ))))
+    (coded× (coded× (coded_list item_code) (coded_list item_code)) (coded× (coded× (coded_list item_code) (coded_list item_code)) (coded× coded_ℕ (coded× coded_ℕ coded_ℕ))))
+    (λ w. ((w.kept, w.left), ((w.aside, w.off), (w.room, (w.other, w.off_room)))))
+    (λ p. record { kept = p.0.0; left = p.0.1; aside = p.1.0.0; off = p.1.0.1; room = p.1.1.0; other = p.1.1.1.0; off_room = p.1.1.1.1 }) (λ _. refl)

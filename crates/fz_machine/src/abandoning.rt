@@ -8,19 +8,20 @@ use crate::machine::Machine;
 use crate::refused::Refused;
 
 impl Machine {
-    /// Ends an open pass early. What it has queued stays queued. An object that it hasn't queued stays registered, and so does a cleanup. A link whose removal
-    /// waits for an answer stays, too.
+    /// Ends an open pass early. What it has queued stays queued. An object that it hasn't queued stays registered, and so does a cleanup. A link or an
+    /// ephemeron whose removal waits for an answer stays, too.
     ///
-    /// The host may reclaim nothing before its next pass has ended: registered objects and targets of links still have to exist. Fails with `NoPass` if no
+    /// The host may reclaim nothing before its next pass has ended: registered objects, targets of links and keys still have to exist. Fails with `NoPass` if no
     /// pass is open.
     pub fn abandon(&mut self) -> Result<(), Refused>
         ensures refused { OnErr result ((self.old.phase ≡ None) × (self.new ≡ self.old)) }
         ensures cause { IfErr result (λ r. r ≡ NoPass) }
         ensures abandoned { OnOk result (IsAbandoned self.old self.new) }
     {
-        if self.phase.is_none() {
+        let Some(phase) = self.phase else {
             return Err(Refused::NoPass);
-        }
+        };
+        self.walk.stop(phase);
         self.phase = None;
         self.asked = 0;
         self.regions.stop();

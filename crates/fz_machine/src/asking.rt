@@ -1,9 +1,9 @@
 //! The steps of a pass.
 
 ghost use Rattle.std.specs.Prelude.{◌≡◌, ◌≤◌, ◌<◌, ◌∷◌, [], drop, is_some};
-ghost use Rattle.fz_machine.specs.Phases.{after, asks};
+ghost use Rattle.fz_machine.specs.Phases.{after, asks, settles};
 ghost use Rattle.fz_machine.specs.Steps.{step, steps, skip};
-ghost use Rattle.fz_machine.specs.Going.{going};
+ghost use Rattle.fz_machine.specs.Going.{going, HasRoomOff, IsSameRoom};
 
 use crate::item::Item;
 use crate::phase::Phase;
@@ -28,6 +28,12 @@ fn act(finalizers: &mut Finalizers, phase: Phase, item: Item, yes: bool)
         Phase::LongHolders if !yes => {
             finalizers.unlink(LinkKind::Long, item.word);
         }
+        Phase::ShortKeyWords | Phase::LongKeyWords => {
+            finalizers.end_ephemeron(item.word);
+        }
+        Phase::ShortKeyHolders | Phase::LongKeyHolders if !yes => {
+            finalizers.end_ephemeron(item.word);
+        }
         Phase::Picks if item.kind != Kind::Unreachable => {
             finalizers.queue(item.object);
         }
@@ -44,17 +50,24 @@ fn act(finalizers: &mut Finalizers, phase: Phase, item: Item, yes: bool)
 /// Processes the answer about the first remaining item.
 fn step(finalizers: &mut Finalizers, walk: &mut Walk, phase: Phase, item: Item, yes: bool)
     requires first { walk.old.left ≡ item ∷ drop 1 walk.old.left }
+    requires room { HasRoomOff (settles phase) walk.old }
     ensures stepped { going finalizers.new walk.new ≡ step phase yes (going finalizers.old walk.old) }
-    ensures room { walk.new.room ≡ walk.old.room }
+    ensures room { HasRoomOff (settles phase) walk.new }
+    ensures same { IsSameRoom walk.old walk.new }
 {
     act(finalizers, phase, item, yes);
     walk.pass_on(item, phase.keeps(&item, yes));
+    if phase.puts_off(yes) {
+        walk.put_off(item);
+    }
 }
 
 /// Processes answers about the first remaining items, one after another.
 pub(crate) fn hear(finalizers: &mut Finalizers, walk: &mut Walk, phase: Phase, answers: &[bool])
+    requires room { HasRoomOff (settles phase) walk.old }
     ensures heard { going finalizers.new walk.new ≡ steps phase answers.now (going finalizers.old walk.old) }
-    ensures room { walk.new.room ≡ walk.old.room }
+    ensures room { HasRoomOff (settles phase) walk.new }
+    ensures same { IsSameRoom walk.old walk.new }
 {
     for yes in answers {
         let Some(item) = walk.first() else {
@@ -66,8 +79,10 @@ pub(crate) fn hear(finalizers: &mut Finalizers, walk: &mut Walk, phase: Phase, a
 
 /// Skips items about which nothing is asked.
 pub(crate) fn skip(finalizers: &mut Finalizers, walk: &mut Walk, phase: Phase)
+    requires room { HasRoomOff (settles phase) walk.old }
     ensures skipped { going finalizers.new walk.new ≡ skip phase (going finalizers.old walk.old) }
-    ensures room { walk.new.room ≡ walk.old.room }
+    ensures room { HasRoomOff (settles phase) walk.new }
+    ensures same { IsSameRoom walk.old walk.new }
 {
     while let Some(item) = walk.first() {
         if phase.asks(&item).is_some() {

@@ -5,8 +5,10 @@ ghost use Rattle.std.specs.FinMap.{get, len, contains_key, empty};
 ghost use Rattle.std.specs.FinSet.{contains};
 ghost use Rattle.fz_model.specs.Steps.{move_answer, old_of};
 ghost use Rattle.fz_pass.specs.All.{QueuesAll};
+ghost use Rattle.fz_pass.specs.Keyed as keyed;
+ghost use Rattle.fz_pass.specs.Keyed.{ephemeron_at, has_ephemeron, of_kind};
 ghost use Rattle.fz_finalizers.specs.Causes.{add_causes, finish_causes, link_causes, move_causes, register_causes};
-ghost use Rattle.fz_finalizers.specs.Follows.{Follows, Register, Unregister, Link, Unlink, Move, AddCleanup, Cancel, QueueAll, Take, TakeFinished, Finish};
+ghost use Rattle.fz_finalizers.specs.Follows.{Follows, Register, Unregister, Link, Unlink, Move, Ephemeron, EndEphemeron, MoveEphemeron, AddCleanup, Cancel, QueueAll, Take, TakeFinished, Finish};
 ghost use Rattle.fz_finalizers.specs.Passed.{CleansAll};
 ghost use Rattle.fz_finalizers.specs.States.{HasRooms, IsRoomier, KeepsTables, links_of, room_of};
 ghost use Rattle.fz_machine.specs.Causes.{IsJudgedBy, IsJudgedOrLacks};
@@ -126,6 +128,59 @@ impl Machine {
     {
         self.check()?;
         match reserving::link(&mut self.finalizers, &mut self.walk, kind, word, target) {
+            Ok(answer) => Ok(answer),
+            Err(refused) => Err(Refused::Finalizers(refused)),
+        }
+    }
+
+    /// Makes a word an ephemeron of a key, in place of the one that it may be: what the word points to is retained by the word only as long as the object in which
+    /// the word lies and the key are.
+    ///
+    /// The host has to ensure that the key is an object, and doesn't scan the word with the object in which it lies. Takes no room that `reserve` reserved. Fails with
+    /// `PassOpen`, and then as `Finalizers::ephemeron` does.
+    pub fn ephemeron(
+        &mut self,
+        kind: LinkKind,
+        word: Addr,
+        key: Addr,
+    ) -> Result<LinkAnswer, Refused>
+        ensures judged { IsJudgedOrLacks self.old.phase (link_causes (of_kind self.old.finalizers.ephemerons kind) word key) result }
+        ensures regions { KeepsRegions self.old self.new }
+        // Only a new ephemeron, or one that changes its kind, can run out of memory.
+        ensures fresh { IfErr result (λ r. r ≡ Refused.Finalizers NoMemory → get (of_kind self.old.finalizers.ephemerons kind) word ≡ None) }
+        ensures refused { OnErr result ((self.new.phase ≡ self.old.phase) × (self.new.finalizers.state ≡ self.old.finalizers.state)) }
+        ensures answer { IfOk result (λ answer. answer ≡ (if has_ephemeron self.old.finalizers.ephemerons word then LinkAnswer.Duplicate else LinkAnswer.Success)) }
+        ensures follows { OnOk result (IsIdle self.new × Follows self.old.finalizers.state (Ephemeron kind word key) self.new.finalizers.state) }
+    {
+        self.check()?;
+        match reserving::ephemeron(&mut self.finalizers, &mut self.walk, kind, word, key) {
+            Ok(answer) => Ok(answer),
+            Err(refused) => Err(Refused::Finalizers(refused)),
+        }
+    }
+
+    /// Ends the ephemeron of a word, and returns its kind and its key. Fails with `PassOpen`.
+    pub fn end_ephemeron(&mut self, word: Addr) -> Result<Option<(LinkKind, Addr)>, Refused>
+        ensures judged { IsJudgedBy self.old.phase [] result }
+        ensures regions { KeepsRegions self.old self.new }
+        ensures refused { OnErr result (self.new ≡ self.old) }
+        ensures answer { IfOk result (λ was. was ≡ ephemeron_at self.old.finalizers.ephemerons word) }
+        ensures follows { OnOk result (IsIdle self.new × Follows self.old.finalizers.state (EndEphemeron word) self.new.finalizers.state) }
+    {
+        self.check()?;
+        Ok(self.finalizers.end_ephemeron(word))
+    }
+
+    /// Moves an ephemeron from one word to another; its kind and its key stay the same. Fails with, in this order: `PassOpen`, `Zero` if the other word is 0.
+    pub fn move_ephemeron(&mut self, word: Addr, to: Addr) -> Result<MoveAnswer, Refused>
+        ensures judged { IsJudgedBy self.old.phase (move_causes to) result }
+        ensures regions { KeepsRegions self.old self.new }
+        ensures refused { OnErr result ((self.new.phase ≡ self.old.phase) × (self.new.finalizers.state ≡ self.old.finalizers.state)) }
+        ensures answer { IfOk result (λ answer. answer ≡ keyed.move_answer self.old.finalizers.ephemerons word to) }
+        ensures follows { OnOk result (IsIdle self.new × Follows self.old.finalizers.state (MoveEphemeron word to) self.new.finalizers.state) }
+    {
+        self.check()?;
+        match self.finalizers.move_ephemeron(word, to) {
             Ok(answer) => Ok(answer),
             Err(refused) => Err(Refused::Finalizers(refused)),
         }

@@ -4,7 +4,7 @@ ghost use Rattle.std.specs.Prelude.{◌≡◌, ◌≤◌, ◌<◌, ◌∷◌, []
 ghost use Rattle.fz_machine.specs.declared.item.Item.{Item};
 ghost use Rattle.fz_machine.specs.declared.question.TheConstants.{BATCH};
 ghost use Rattle.fz_machine.specs.Phases.{asks, subject};
-ghost use Rattle.fz_machine.specs.Going.{begins_with, going_by, to_process_by, walk_by, AreFewer, HasFirst, HasRoom, IsInOrder};
+ghost use Rattle.fz_machine.specs.Going.{begins_with, follows_settling, going_by, to_process_by, walk_by, AreFewer, HasFirst, HaveRoom, HasRoomOff, IsInOrder};
 ghost use Rattle.fz_machine.specs.Regions.{AreNoted};
 ghost use Rattle.fz_machine.specs.Steps.{Begins, GoesOn, IsQuestion, skip};
 
@@ -28,6 +28,7 @@ fn skip_by(
 ) -> bool
     requires order { IsInOrder finalizers.old.state walk.old regions.old (Some phase) 0 }
     ensures skipped { going_by finalizers.new walk.new regions.new ≡ skip phase (going_by finalizers.old walk.old regions.old) }
+    ensures left { IsFalse result → walk.new.left ≡ [] }
     ensures some { result ≡ is_some (slice_get (walk_by finalizers.new.state walk.new regions.new).left 0) }
     ensures order { IsInOrder finalizers.new.state walk.new regions.new (Some phase) 0 }
     ensures first { HasFirst finalizers.new.state regions.new }
@@ -45,7 +46,9 @@ fn skip_by(
 /// Lists what a phase processes: registrations by regions, if these are complete.
 fn begin_by(finalizers: &Finalizers, walk: &mut Walk, regions: &mut Regions, phase: Phase)
     requires none { regions.old.left ≡ [] }
-    requires room { HasRoom finalizers.now.state walk.old.room }
+    requires left { walk.old.left ≡ [] }
+    requires room { HaveRoom (follows_settling phase) finalizers.now.state walk.old }
+    requires off { HasRoomOff (follows_settling phase) walk.old }
     requires noted { IsTrue regions.old.complete → AreNoted finalizers.now.state regions.old.order }
     ensures begins { Begins phase (going_by finalizers.now walk.old regions.old) (going_by finalizers.now walk.new regions.new) }
     ensures order { IsInOrder finalizers.now.state walk.new regions.new (Some phase) 0 }
@@ -53,7 +56,7 @@ fn begin_by(finalizers: &Finalizers, walk: &mut Walk, regions: &mut Regions, pha
     ensures left { length regions.new.left ≤ begins_with phase (length regions.old.order) }
     ensures same { regions.new.complete ≡ regions.old.complete }
 {
-    if phase == Phase::Objects && regions.is_complete() {
+    if phase.is_objects() && regions.is_complete() {
         walk.clear();
         regions.begin();
         return;
@@ -81,7 +84,7 @@ pub(crate) fn go_on(
         if skip_by(finalizers, walk, regions, phase) {
             return Some(phase);
         }
-        let Some(next) = phase.next() else {
+        let Some(next) = phase.next(walk.kept()) else {
             return None;
         };
         phase = next;

@@ -6,21 +6,21 @@ ghost use Rattle.fz_machine.specs.Items.{of_cleanup, of_late, of_link, of_other,
 use fz_finalizers::{Attached, Kind, Stored};
 use fz_model::{Addr, Registration};
 
-/// A link, a registration or a cleanup, as a phase processes it.
+/// A link, an ephemeron, a registration or a cleanup, as a phase processes it.
 #[derive(Clone, Copy, Debug, PartialEq, Eq)]
 pub struct Item {
-    /// The registered object, the target of the link, or the object of the cleanup.
+    /// The registered object, the target of the link, the key of the ephemeron, or the object of the cleanup.
     pub object: Addr,
-    /// The word of the link, or the number of the cleanup; 0 for a registration.
+    /// The word of the link or of the ephemeron, or the number of the cleanup; 0 for a registration.
     pub word: u64,
-    /// The kind of the registration; `Normal` for a link or a cleanup.
+    /// The kind of the registration; `Normal` for a link, an ephemeron or a cleanup.
     pub kind: Kind,
-    /// The position in queue order: the rank of the registration or the cleanup, plus 256 for the kind `Unreachable`; 0 for a link.
+    /// The position in queue order: the rank of the registration or the cleanup, plus 256 for the kind `Unreachable`; 0 for a link or an ephemeron.
     pub turn: u16,
 }
 
 impl Item {
-    /// A link from the word to the target.
+    /// A link from the word to the target, or an ephemeron with its key.
     pub(crate) fn of_link(word: Addr, target: Addr) -> Item
         ensures { result ≡ of_link (word, target) }
     {

@@ -1,9 +1,9 @@
 //! The result of a run of questions and answers.
 
 ghost use Rattle.fz_machine.specs.Heard.{PassesAreCalls, PassesEnd, RegionQuestionsEnd};
-ghost use Rattle.fz_machine.specs.Runs.{AsksRightly, RunsPass, WordsAreAnswers};
+ghost use Rattle.fz_machine.specs.Runs.{AsksRightly, RunsPass, RunsPlainPass, WordsAreAnswers};
 
-/// A run whose answers are true of a graph carries out the model's pass, as `Finalizers::pass` does. Entries that are taken and finished between its questions
+/// A run whose answers are true of a graph carries out the model's pass, as `Finalizers::pass_with_ephemerons` does. Entries that are taken and finished between its questions
 /// might as well be taken and finished after the pass.
 ///
 /// If the host marks exactly what it is asked to mark, the run queues and retains exactly what the model does. If it marks more, the run queues no more than
@@ -13,8 +13,15 @@ pub fn runs_make_the_pass()
     ensures more { RunsPass ⊥ }
 {}
 
+/// Without ephemerons this is the pass that `Finalizers::pass` carries out.
+pub fn runs_make_the_plain_pass()
+    ensures plain { RunsPlainPass (Unit {0}) }
+    ensures plain_of_more { RunsPlainPass ⊥ }
+{}
+
 /// Whatever the host answers, and whatever is taken and finished meanwhile, a pass processes at most six answers for each registration, three for each link and
-/// one for each cleanup. This bounds answers, not calls: a call of `next` without answers repeats the question, so a host that never answers never reaches the
+/// one for each cleanup; and for `n` ephemerons `3 * n + 6 * n * (n + 1)`, since each of four times the marks are made whole in rounds of three answers for each
+/// ephemeron that still waits, of which each round but the last leaves fewer. This bounds answers, not calls: a call of `next` without answers repeats the question, so a host that never answers never reaches the
 /// end. Each question is about at least one item, so a host that answers at least one item of each question reaches the end after at most that many questions.
 pub fn passes_end()
     ensures { PassesEnd }
@@ -32,7 +39,7 @@ pub fn passes_are_calls()
     ensures { PassesAreCalls }
 {}
 
-/// A host that answers for a graph is asked only what it may be asked: to mark only objects of the graph, and only while everything that marked objects reach
+/// A host that answers for a graph is asked only what it may be asked: to mark only objects of the graph and values, and only while everything that marked objects reach
 /// is marked. This holds for each item of a question, if the answers about the items before it are those of the graph.
 pub fn questions_may_be_asked()
     ensures asked { AsksRightly (Unit {0}) }

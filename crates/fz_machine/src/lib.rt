@@ -23,12 +23,12 @@ mod walk;
 pub use item::Item;
 pub use law::{
     passes_are_calls, passes_end, questions_may_be_asked, region_questions_end, runs_make_the_pass,
-    words_are_answers,
+    runs_make_the_plain_pass, words_are_answers,
 };
 pub use machine::Machine;
 pub use pass::{Next, Step};
-pub use phase::Phase;
+pub use phase::{Moment, Phase};
 pub use question::{Ask, BATCH, Question};
 pub use refused::Refused;
-pub use responding::{respond, respond_marks};
+pub use responding::{respond, respond_marks, respond_with_values};
 pub use walk::Walk;

@@ -1,12 +1,15 @@
 //! The lists that phases process.
 
-ghost use Rattle.std.specs.Prelude.{◌≡◌, ◌≤◌, ◌<◌, ◌+◌, ◌*◌, ◌^◌, ◌++◌, ◌∷◌, [], ℕ, List, if◌then◌else◌, filter, map, All, vec_len, vec_capacity};
+ghost use Rattle.std.specs.Prelude.{◌≡◌, ◌≤◌, ◌<◌, ◌+◌, ◌*◌, ◌^◌, ◌++◌, ◌∷◌, [], ℕ, List, true, false, if◌then◌else◌, filter, length, map, All, vec_len, vec_capacity};
+ghost use Rattle.fz_machine.specs.declared.item.Item.{Item};
 ghost use Rattle.std.specs.FinMap.{len};
 ghost use Rattle.fz_finalizers.specs.States.{links_of};
+ghost use Rattle.fz_pass.specs.Keyed.{of_kind};
 ghost use Rattle.fz_finalizers.specs.declared.cleanups.Attached.{Attached};
 ghost use Rattle.fz_finalizers.specs.Cleanups.{is_when};
-ghost use Rattle.fz_machine.specs.Items.{AreCleanups, AreEntriesOf, AreLinks, AreObjects, of_cleanup};
-ghost use Rattle.fz_machine.specs.Going.{going, HasRoom};
+ghost use Rattle.fz_machine.specs.Items.{AreCleanups, AreEntriesOf, AreEphemerons, AreLinks, AreObjects, of_cleanup};
+ghost use Rattle.fz_machine.specs.Going.{ephemerons_in, follows_settling, going, HasRoom, HaveRoom, HasRoomOff, IsListed};
+ghost use Rattle.fz_machine.specs.Phases.{settles};
 ghost use Rattle.fz_machine.specs.Steps.{Begins};
 
 use crate::item::Item;
@@ -48,28 +51,61 @@ fn list_objects(finalizers: &Finalizers, items: &mut Vec<Item>)
     }
 }
 
+/// Appends all ephemerons of one kind to the list, which has room for them.
+fn list_ephemerons(finalizers: &Finalizers, kind: LinkKind, items: &mut Vec<Item>)
+    requires room { vec_len items.old + len (of_kind finalizers.now.ephemerons kind) ≤ vec_capacity items.old }
+    ensures listed { (more : List Item) × AreLinks (of_kind finalizers.now.ephemerons kind) more × (items.new.items ≡ items.old.items ++ more) }
+    ensures room { vec_capacity items.old ≤ vec_capacity items.new }
+{
+    for (word, key) in finalizers.iter_ephemerons(kind) {
+        put(items, Item::of_link(word, key));
+    }
+}
+
 /// Lists all links of a kind.
 fn walk_links(finalizers: &Finalizers, kind: LinkKind, walk: &mut Walk)
     requires room { HasRoom finalizers.now.state walk.old.room }
-    ensures kept { walk.new.kept ≡ [] }
     ensures listed { AreLinks (links_of finalizers.now.state kind) walk.new.left }
-    ensures room { walk.old.room ≤ walk.new.room }
+    ensures others { IsListed walk.old walk.new }
 {
     let mut items = walk.take_room();
     list_links(finalizers, kind, &mut items);
-    *walk = Walk::of(items);
+    walk.put(items);
+}
+
+/// Lists all ephemerons of a kind.
+fn walk_keys(finalizers: &Finalizers, kind: LinkKind, walk: &mut Walk)
+    requires room { ephemerons_in finalizers.now.state ≤ walk.old.room }
+    ensures listed { AreLinks (of_kind finalizers.now.ephemerons kind) walk.new.left }
+    ensures others { IsListed walk.old walk.new }
+{
+    let mut items = walk.take_room();
+    list_ephemerons(finalizers, kind, &mut items);
+    walk.put(items);
+}
+
+/// Lists all ephemerons.
+fn walk_ephemerons(finalizers: &Finalizers, walk: &mut Walk)
+    requires room { ephemerons_in finalizers.now.state ≤ walk.old.room }
+    ensures listed { AreEphemerons finalizers.now.ephemerons walk.new.left }
+    ensures count { length walk.new.left ≡ ephemerons_in finalizers.now.state }
+    ensures others { IsListed walk.old walk.new }
+{
+    let mut items = walk.take_room();
+    list_ephemerons(finalizers, LinkKind::Short, &mut items);
+    list_ephemerons(finalizers, LinkKind::Long, &mut items);
+    walk.put(items);
 }
 
 /// Lists all registrations.
 fn walk_objects(finalizers: &Finalizers, walk: &mut Walk)
     requires room { HasRoom finalizers.now.state walk.old.room }
-    ensures kept { walk.new.kept ≡ [] }
     ensures listed { AreObjects finalizers.now.registrations finalizers.now.late walk.new.left }
-    ensures room { walk.old.room ≤ walk.new.room }
+    ensures others { IsListed walk.old walk.new }
 {
     let mut items = walk.take_room();
     list_objects(finalizers, &mut items);
-    *walk = Walk::of(items);
+    walk.put(items);
 }
 
 /// Appends a cleanup to the list, which has room for it, if it is of this moment.
@@ -108,30 +144,57 @@ fn numbered(item: &Item) -> u128
 /// Lists all cleanups of a moment, by rank, then number.
 fn walk_cleanups(finalizers: &Finalizers, when: LinkKind, walk: &mut Walk)
     requires room { HasRoom finalizers.now.state walk.old.room }
-    ensures kept { walk.new.kept ≡ [] }
     ensures listed { AreCleanups when finalizers.now.cleanups walk.new.left }
-    ensures room { walk.old.room ≤ walk.new.room }
+    ensures others { IsListed walk.old walk.new }
 {
     let mut items = walk.take_room();
     list_cleanups(finalizers, when, &mut items);
     items.sort_unstable_by_key(|item| numbered(item));
-    *walk = Walk::of(items);
+    walk.put(items);
+}
+
+/// Sets the kept items aside, and lists all ephemerons.
+fn walk_rows(finalizers: &Finalizers, walk: &mut Walk)
+    requires room { HaveRoom false finalizers.now.state walk.old }
+    ensures listed { AreEphemerons finalizers.now.ephemerons walk.new.left }
+    ensures others { walk.new ≡ record walk.new { kept = []; aside = walk.old.kept; off = [] } }
+    ensures room { HaveRoom true finalizers.now.state walk.new }
+    ensures off { HasRoomOff true walk.new }
+{
+    walk.set_aside();
+    walk_ephemerons(finalizers, walk);
 }
 
 /// Lists what a phase processes.
 pub(crate) fn begin(finalizers: &Finalizers, walk: &mut Walk, phase: Phase)
-    requires room { HasRoom finalizers.now.state walk.old.room }
+    requires room { HaveRoom (follows_settling phase) finalizers.now.state walk.old }
+    requires off { HasRoomOff (follows_settling phase) walk.old }
+    requires left { walk.old.left ≡ [] }
     ensures begins { Begins phase (going finalizers.now walk.old) (going finalizers.now walk.new) }
-    ensures room { walk.old.room ≤ walk.new.room }
+    ensures room { HaveRoom (settles phase) finalizers.now.state walk.new }
+    ensures off { HasRoomOff (settles phase) walk.new }
 {
     match phase {
+        Phase::Keys(_) => walk_rows(finalizers, walk),
+        Phase::KeysAgain(_) => walk.again_off(),
+        Phase::Holders(_) | Phase::Values(_) => walk.again(),
+        Phase::ShortCleanups => {
+            walk.resume();
+            walk_cleanups(finalizers, LinkKind::Short, walk);
+        }
+        Phase::LongTargets => {
+            walk.resume();
+            walk_links(finalizers, LinkKind::Long, walk);
+        }
+        Phase::Again | Phase::LateAgain => walk.resume(),
         Phase::ShortTargets | Phase::ShortHolders => walk_links(finalizers, LinkKind::Short, walk),
-        Phase::LongTargets | Phase::LongHolders => walk_links(finalizers, LinkKind::Long, walk),
-        Phase::ShortCleanups => walk_cleanups(finalizers, LinkKind::Short, walk),
+        Phase::LongHolders => walk_links(finalizers, LinkKind::Long, walk),
+        Phase::ShortKeys | Phase::ShortKeyHolders => walk_keys(finalizers, LinkKind::Short, walk),
+        Phase::LongKeys | Phase::LongKeyHolders => walk_keys(finalizers, LinkKind::Long, walk),
         Phase::LongCleanups => walk_cleanups(finalizers, LinkKind::Long, walk),
         Phase::Objects => walk_objects(finalizers, walk),
         Phase::Picks => walk.again_in_turn(),
-        Phase::ShortWords | Phase::Children | Phase::Again => walk.again(),
-        Phase::LateAgain | Phase::LatePicks | Phase::LongWords => walk.again(),
+        Phase::ShortWords | Phase::ShortKeyWords | Phase::Children => walk.again(),
+        Phase::LatePicks | Phase::LongWords | Phase::LongKeyWords => walk.again(),
     }
 }

@@ -5,7 +5,7 @@ ghost use Rattle.std.specs.FinMap.{contains_key, len};
 ghost use Rattle.fz_model.specs.Bits.{has_bit};
 ghost use Rattle.fz_machine.specs.declared.phase.Phase.TheVariants.{Objects};
 ghost use Rattle.fz_machine.specs.declared.question.TheConstants.{BATCH};
-ghost use Rattle.fz_machine.specs.Going.{going_by, AreFewer, HasFirst, HasRoomToKeep};
+ghost use Rattle.fz_machine.specs.Going.{going_by, AreFewer, HasFirst, HasRoomToKeep, KeepsBeside};
 ghost use Rattle.fz_machine.specs.Regions.{place_in, objects_in, item_at, items_of, items_in, marks_say, AreNoted};
 ghost use Rattle.fz_machine.specs.Machines.{GoesTo, PassesOver, Writes, next_of};
 ghost use Rattle.fz_machine.specs.Steps.{steps};
@@ -97,6 +97,7 @@ fn sift(finalizers: &Finalizers, walk: &mut Walk, region: Addr, bits: u64, marks
     requires begin { place_in region ≡ 0 }
     requires none { walk.old.left ≡ [] }
     requires room { length walk.old.kept + length (items_of finalizers.now.state (objects_in (region, bits))) ≤ walk.old.room }
+    ensures beside { KeepsBeside walk.old walk.new }
     ensures kept { walk.new.kept ≡ walk.old.kept ++ filter (λ (item : Item). not (has_bit marks (place_in item.object))) (items_of finalizers.now.state (objects_in (region, bits))) }
     ensures none { walk.new.left ≡ [] }
     ensures room { walk.old.room ≤ walk.new.room }
@@ -125,6 +126,7 @@ pub(crate) fn hear_marks(
     requires room { HasRoomToKeep finalizers.now.state walk.old regions.old }
     ensures heard { going_by finalizers.now walk.new regions.new ≡ steps Objects (marks_say finalizers.now.state (take regions.old.asked regions.old.left) marks.now) (going_by finalizers.now walk.old regions.old) }
     ensures room { HasRoomToKeep finalizers.now.state walk.new regions.new × (walk.old.room ≤ walk.new.room) }
+    ensures beside { KeepsBeside walk.old walk.new }
     ensures same { regions.new.complete ≡ regions.old.complete }
     ensures left { regions.new.left ≡ drop (min regions.old.asked BATCH) regions.old.left }
     ensures tabled { length regions.new.order ≤ length regions.old.order }

@@ -12,7 +12,7 @@ use crate::asking::hear;
 use crate::going_on::{go_on, question};
 use crate::listing::begin;
 use crate::machine::Machine;
-use crate::phase::Phase;
+use crate::phase::{Moment, Phase};
 use crate::question::{Ask, BATCH, Question};
 use crate::refused::Refused;
 use fz_finalizers::{Addr, Passed};
@@ -50,8 +50,10 @@ impl Machine {
         }
         let number = self.finalizers.begin_pass();
         self.before = self.finalizers.queued();
-        begin(&self.finalizers, &mut self.walk, Phase::ShortCleanups);
-        self.phase = Some(Phase::ShortCleanups);
+        self.walk.clear();
+        let phase = Phase::Keys(Moment::First);
+        begin(&self.finalizers, &mut self.walk, phase);
+        self.phase = Some(phase);
         self.asked = 0;
         Ok(number)
     }
@@ -108,8 +110,8 @@ impl Machine {
     }
 
     /// Processes the answers to the last question, and returns what comes next: another question or the end. For `IsMarked` and `IsHolderMarked` the answers
-    /// have to be what the host's marks say; commands need an answer too, whose value is ignored. Items left unanswered are asked again. Takes time
-    /// proportional to the question and its answers.
+    /// have to be what the host's marks say, and for `MarkValue` whether something may have been marked; other commands need an answer too, whose value is
+    /// ignored. Items left unanswered are asked again. Takes time proportional to the question and its answers.
     ///
     /// Takes no memory. Fails with `NoPass` if no pass is open.
     pub fn next(&mut self, answers: &[bool]) -> Result<Next, Refused>

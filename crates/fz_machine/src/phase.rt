@@ -1,22 +1,61 @@
-//! The phases of a pass: those of bdwgc's finalize.c in its order, between two that queue cleanups.
+//! The phases of a pass: those of bdwgc's finalize.c in its order, between two that queue cleanups, with those for ephemerons.
 
 ghost use Rattle.std.specs.Prelude.{◌≡◌};
-ghost use Rattle.fz_machine.specs.Phases.{next_phase, child_ask, pick_ask, asks, subject, keeps};
+ghost use Rattle.fz_machine.specs.Phases.{behind, next_phase, child_ask, pick_ask, asks, subject, keeps, puts_off, settles, is_objects};
 
 use crate::item::Item;
 use crate::question::Ask;
 use fz_finalizers::Kind;
 use fz_model::Addr;
 
+/// When a pass makes the marks whole: it marks the values of ephemerons whose keys and holders are marked, until no more follow.
+#[derive(Clone, Copy, Debug, PartialEq, Eq)]
+pub enum Moment {
+    /// Before everything else.
+    First,
+    /// After the children of unmarked registered objects are marked.
+    Led,
+    /// After objects of other kinds than `Unreachable` are queued.
+    Picked,
+    /// After objects of kind `Unreachable` are queued.
+    Last,
+}
+
+impl Moment {
+    /// The phase that follows.
+    fn behind(self) -> Phase
+        ensures { result ≡ behind self }
+    {
+        match self {
+            Moment::First => Phase::ShortCleanups,
+            Moment::Led => Phase::Again,
+            Moment::Picked => Phase::LateAgain,
+            Moment::Last => Phase::LongTargets,
+        }
+    }
+}
+
 /// A phase of a pass. It processes a list, and asks the same about each item of it.
 #[derive(Clone, Copy, Debug, PartialEq, Eq)]
 pub enum Phase {
+    /// Asks which keys of ephemerons are marked, and puts off the others.
+    Keys(Moment),
+    /// The same for those that were put off, after values were marked.
+    KeysAgain(Moment),
+    /// Asks whether the objects that contain the words of those with marked keys are marked, and puts off the others.
+    Holders(Moment),
+    /// Marks the values of those with marked keys and holders.
+    Values(Moment),
     /// Asks which objects of short cleanups are marked, and queues the cleanups of the others, by rank, then number.
     ShortCleanups,
     /// Asks which targets of short links are marked.
     ShortTargets,
     /// Clears the words of short links to unmarked targets.
     ShortWords,
+    /// Asks which keys of short ephemerons are marked.
+    ShortKeys,
+    /// Clears the words of short ephemerons with unmarked keys.
+    ShortKeyWords,
     /// Asks which registered objects are marked.
     Objects,
     /// Marks the children of the unmarked ones, depending on their kinds.
@@ -33,10 +72,18 @@ pub enum Phase {
     LongTargets,
     /// Clears the words of long links to unmarked targets.
     LongWords,
+    /// Asks which keys of long ephemerons are marked.
+    LongKeys,
+    /// Clears the words of long ephemerons with unmarked keys.
+    LongKeyWords,
     /// Asks whether the objects that contain the words of short links are marked.
     ShortHolders,
     /// The same for long links.
     LongHolders,
+    /// The same for short ephemerons.
+    ShortKeyHolders,
+    /// The same for long ephemerons.
+    LongKeyHolders,
     /// Asks which objects of long cleanups are marked, and queues the cleanups of the others.
     LongCleanups,
 }
@@ -64,25 +111,55 @@ fn pick_ask(kind: Kind) -> Option<Ask>
 }
 
 impl Phase {
-    /// The following phase.
-    pub(crate) fn next(self) -> Option<Phase>
-        ensures { result ≡ next_phase self }
+    /// The following phase, given the items that this one has kept.
+    pub(crate) fn next(self, kept: &[Item]) -> Option<Phase>
+        ensures { result ≡ next_phase self kept.now }
     {
         match self {
+            Phase::Keys(moment) | Phase::KeysAgain(moment) => Some(Phase::Holders(moment)),
+            Phase::Holders(moment) => Some(Phase::Values(moment)),
+            Phase::Values(moment) if kept.is_empty() => Some(moment.behind()),
+            Phase::Values(moment) => Some(Phase::KeysAgain(moment)),
             Phase::ShortCleanups => Some(Phase::ShortTargets),
             Phase::ShortTargets => Some(Phase::ShortWords),
-            Phase::ShortWords => Some(Phase::Objects),
+            Phase::ShortWords => Some(Phase::ShortKeys),
+            Phase::ShortKeys => Some(Phase::ShortKeyWords),
+            Phase::ShortKeyWords => Some(Phase::Objects),
             Phase::Objects => Some(Phase::Children),
-            Phase::Children => Some(Phase::Again),
+            Phase::Children => Some(Phase::Keys(Moment::Led)),
             Phase::Again => Some(Phase::Picks),
-            Phase::Picks => Some(Phase::LateAgain),
+            Phase::Picks => Some(Phase::Keys(Moment::Picked)),
             Phase::LateAgain => Some(Phase::LatePicks),
-            Phase::LatePicks => Some(Phase::LongTargets),
+            Phase::LatePicks => Some(Phase::Keys(Moment::Last)),
             Phase::LongTargets => Some(Phase::LongWords),
-            Phase::LongWords => Some(Phase::ShortHolders),
+            Phase::LongWords => Some(Phase::LongKeys),
+            Phase::LongKeys => Some(Phase::LongKeyWords),
+            Phase::LongKeyWords => Some(Phase::ShortHolders),
             Phase::ShortHolders => Some(Phase::LongHolders),
-            Phase::LongHolders => Some(Phase::LongCleanups),
+            Phase::LongHolders => Some(Phase::ShortKeyHolders),
+            Phase::ShortKeyHolders => Some(Phase::LongKeyHolders),
+            Phase::LongKeyHolders => Some(Phase::LongCleanups),
             Phase::LongCleanups => None,
+        }
+    }
+
+    /// Whether it makes the marks whole. Its list is of ephemerons, and another list is set aside.
+    pub(crate) fn settles(self) -> bool
+        ensures { result ≡ settles self }
+    {
+        match self {
+            Phase::Keys(_) | Phase::KeysAgain(_) | Phase::Holders(_) | Phase::Values(_) => true,
+            _ => false,
+        }
+    }
+
+    /// Whether it asks which registered objects are marked.
+    pub(crate) fn is_objects(self) -> bool
+        ensures { result ≡ is_objects self }
+    {
+        match self {
+            Phase::Objects => true,
+            _ => false,
         }
     }
 
@@ -91,14 +168,20 @@ impl Phase {
         ensures { result ≡ asks self item.now }
     {
         match self {
+            Phase::Keys(_) | Phase::KeysAgain(_) => Some(Ask::IsMarked),
+            Phase::Holders(_) => Some(Ask::IsHolderMarked),
+            Phase::Values(_) => Some(Ask::MarkValue),
             Phase::ShortCleanups | Phase::LongCleanups => Some(Ask::IsMarked),
             Phase::ShortTargets | Phase::LongTargets => Some(Ask::IsMarked),
+            Phase::ShortKeys | Phase::LongKeys => Some(Ask::IsMarked),
             Phase::Objects | Phase::Again | Phase::LateAgain => Some(Ask::IsMarked),
             Phase::ShortWords | Phase::LongWords => Some(Ask::Clear),
+            Phase::ShortKeyWords | Phase::LongKeyWords => Some(Ask::Clear),
             Phase::Children => child_ask(item.kind),
             Phase::Picks => pick_ask(item.kind),
             Phase::LatePicks => Some(Ask::MarkAlone),
             Phase::ShortHolders | Phase::LongHolders => Some(Ask::IsHolderMarked),
+            Phase::ShortKeyHolders | Phase::LongKeyHolders => Some(Ask::IsHolderMarked),
         }
     }
 
@@ -107,10 +190,15 @@ impl Phase {
         ensures { result ≡ subject self item.now }
     {
         match self {
+            Phase::Keys(_) | Phase::KeysAgain(_) => item.object,
+            Phase::Holders(_) | Phase::Values(_) => item.word,
             Phase::ShortWords | Phase::LongWords => item.word,
+            Phase::ShortKeyWords | Phase::LongKeyWords => item.word,
             Phase::ShortHolders | Phase::LongHolders => item.word,
+            Phase::ShortKeyHolders | Phase::LongKeyHolders => item.word,
             Phase::ShortCleanups | Phase::LongCleanups => item.object,
             Phase::ShortTargets | Phase::LongTargets => item.object,
+            Phase::ShortKeys | Phase::LongKeys => item.object,
             Phase::Objects | Phase::Children | Phase::Again => item.object,
             Phase::Picks | Phase::LateAgain | Phase::LatePicks => item.object,
         }
@@ -121,13 +209,27 @@ impl Phase {
         ensures { result ≡ keeps self item.now yes }
     {
         match self {
+            Phase::Keys(_) | Phase::KeysAgain(_) | Phase::Holders(_) | Phase::Values(_) => yes,
             Phase::ShortTargets | Phase::LongTargets => !yes,
+            Phase::ShortKeys | Phase::LongKeys => !yes,
             Phase::Objects | Phase::Again | Phase::LateAgain => !yes,
             Phase::Children => true,
             Phase::Picks => item.kind == Kind::Unreachable,
             Phase::ShortWords | Phase::LongWords | Phase::LatePicks => false,
+            Phase::ShortKeyWords | Phase::LongKeyWords => false,
             Phase::ShortHolders | Phase::LongHolders => false,
+            Phase::ShortKeyHolders | Phase::LongKeyHolders => false,
             Phase::ShortCleanups | Phase::LongCleanups => false,
+        }
+    }
+
+    /// Whether it puts the ephemeron off, given the answer.
+    pub(crate) fn puts_off(self, yes: bool) -> bool
+        ensures { result ≡ puts_off self yes }
+    {
+        match self {
+            Phase::Keys(_) | Phase::KeysAgain(_) | Phase::Holders(_) => !yes,
+            _ => false,
         }
     }
 }

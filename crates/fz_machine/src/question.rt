@@ -28,6 +28,9 @@ pub enum Ask {
     /// Which objects of a region are marked? The region is named by its first address, and has 64 places, 16 bytes apart from there on. The answer is a word:
     /// its bit `i`, counted from the lowest, says whether the object that begins at place `i` is marked. If none begins there, the bit may have any value.
     Marks,
+    /// Mark the object to which the word of an ephemeron points, if any, and everything that it reaches. The answer says whether something may have been marked
+    /// that wasn't: true is always safe, and costs another round of questions about the ephemerons that still wait.
+    MarkValue,
 }
 
 impl Ask {
@@ -44,6 +47,7 @@ impl Ask {
             Ask::Clear => 6,
             Ask::IsHolderMarked => 7,
             Ask::Marks => 8,
+            Ask::MarkValue => 10,
         }
     }
 }

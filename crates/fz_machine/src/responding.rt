@@ -1,18 +1,18 @@
 //! Answers of a host that can be called.
 
 ghost use Rattle.std.specs.Prelude.{◌+◌, ◌<◌, ◌^◌};
-ghost use Rattle.fz_machine.specs.Graph.{MayAsk, Answers, IsHonestWord, graph_of};
+ghost use Rattle.fz_machine.specs.Graph.{MayAsk, Answers, IsHonestWord, graph_of, no_value};
 
 use crate::question::Ask;
 use crate::regions::{PLACES, bit, object_at};
 use fz_model::Addr;
-use fz_pass::Host;
+use fz_pass::{Host, Values};
 
 /// Asks a host that can be called about one object or link, or has it carry out a command, for which the answer is false. The answer is true of the host: what
-/// `runs_make_the_pass` states of answers, the methods of `Host` promise.
+/// `runs_make_the_pass` states of answers, the methods of `Host` promise. The words of ephemerons have no values for it.
 pub fn respond<H: Host>(host: &mut H, ask: Ask, subject: Addr) -> bool
     requires { MayAsk ask subject (graph_of (H.objects host.old) (H.marked host.old)) }
-    ensures honest { Answers H.is_exact H.place ask subject (graph_of (H.objects host.old) (H.marked host.old)) result (graph_of (H.objects host.new) (H.marked host.new)) }
+    ensures honest { Answers H.is_exact H.place no_value ask subject (graph_of (H.objects host.old) (H.marked host.old)) result (graph_of (H.objects host.new) (H.marked host.new)) }
     ensures same { H.is_same host.old host.new }
 {
     match ask {
@@ -38,7 +38,19 @@ pub fn respond<H: Host>(host: &mut H, ask: Ask, subject: Addr) -> bool
             false
         }
         Ask::IsHolderMarked => host.is_holder_marked(subject),
-        Ask::Marks => false,
+        Ask::Marks | Ask::MarkValue => false,
+    }
+}
+
+/// The same for a host with ephemerons: `MarkValue` marks the value of one.
+pub fn respond_with_values<H: Values>(host: &mut H, ask: Ask, subject: Addr) -> bool
+    requires { MayAsk ask subject (graph_of (H.objects host.old) (H.marked host.old)) }
+    ensures honest { Answers H.is_exact H.place H.value ask subject (graph_of (H.objects host.old) (H.marked host.old)) result (graph_of (H.objects host.new) (H.marked host.new)) }
+    ensures same { H.is_same host.old host.new }
+{
+    match ask {
+        Ask::MarkValue => host.mark_value(subject),
+        _ => respond(host, ask, subject),
     }
 }
 

@@ -1,19 +1,27 @@
-//! The list that a phase processes.
+//! The list that a phase processes, and the lists beside it.
 
 ghost use Rattle.std.specs.Prelude.{◌≡◌, ◌≤◌, ◌<◌, ◌+◌, ◌^◌, ◌++◌, ◌∷◌, [], if◌then◌else◌, min, drop, length, slice_get, vec_capacity, OnOk, OnErr};
+ghost use Rattle.fz_machine.specs.Going.{KeepsBeside};
 ghost use Rattle.fz_machine.specs.Items.{AreInTurn, place_of};
+ghost use Rattle.fz_machine.specs.Phases.{settles};
 
 use crate::item::Item;
+use crate::phase::Phase;
 use std::alloc::{AllocError, Global};
 use std::marker::Model;
 use std::mem;
 
-/// The items that a phase processes: those kept for the next phase, and those that remain. Kept items overwrite processed ones.
+/// The items that a phase processes: those kept for the next phase, and those that remain. Kept items overwrite processed ones. While the marks are made whole,
+/// these are ephemerons, and the list that they interrupt is set aside.
 #[derive(Drop)]
 pub struct Walk {
     items: Vec<Item>,
     kept: usize,
     place: usize,
+    /// What is set aside.
+    aside: Vec<Item>,
+    /// The ephemerons that are put off.
+    off: Vec<Item>,
 }
 
 impl Model for Walk {
@@ -24,7 +32,15 @@ impl Model for Walk {
 
     ghost coded = { walk_code };
 
-    ghost view = { λ w. record { kept = take w.kept w.items.items; left = drop w.place w.items.items; room = vec_capacity w.items } };
+    ghost view = { λ w. record {
+      kept = take w.kept w.items.items;
+      left = drop w.place w.items.items;
+      aside = w.aside.items;
+      off = w.off.items;
+      room = vec_capacity w.items;
+      other = vec_capacity w.aside;
+      off_room = vec_capacity w.off;
+    } };
 
     ghost invariant = { λ w. (w.kept ≤ w.place) × (w.place ≤ length w.items.items) };
 }
@@ -36,8 +52,20 @@ fn place_of(item: &Item) -> u128
     u128::from(item.turn) * 0x1_0000_0000_0000_0000 + u128::from(item.object)
 }
 
+/// Makes room for this many items in a list, and if it allocates, for an eighth more.
+fn make_room(items: &mut Vec<Item>, most: usize) -> Result<(), AllocError>
+    ensures kept { vec_capacity items.old ≤ vec_capacity items.new }
+    ensures room { OnOk result (most ≤ vec_capacity items.new) }
+{
+    items.clear();
+    if most > items.capacity() {
+        items.reserve_exact(most.saturating_add(most / 8))?;
+    }
+    Ok(())
+}
+
 impl Walk {
-    /// An empty list without reserved room.
+    /// Empty lists without reserved room.
     pub(crate) fn new(alloc: Global) -> Walk
         ensures kept { result.kept ≡ [] }
         ensures left { result.left ≡ [] }
@@ -46,6 +74,8 @@ impl Walk {
             items: Vec::new(alloc),
             kept: 0,
             place: 0,
+            aside: Vec::new(alloc),
+            off: Vec::new(alloc),
         }
     }
 
@@ -62,6 +92,7 @@ impl Walk {
         ensures kept { self.old.room ≤ self.new.room }
         ensures room { OnOk result (most ≤ self.new.room) }
         ensures full { OnErr result (self.old.room < most) }
+        ensures others { (self.new.other ≡ self.old.other) × (self.new.off_room ≡ self.old.off_room) }
     {
         self.items.clear();
         self.kept = 0;
@@ -72,38 +103,51 @@ impl Walk {
         Ok(())
     }
 
-    /// Frees memory, except the room for this many items. Clears the list.
-    pub(crate) fn shrink(&mut self, most: usize)
-        ensures { min most self.old.room ≤ self.new.room }
+    /// Reserves room for this many ephemerons, in each of the lists. Clears the list.
+    pub(crate) fn reserve_rows(&mut self, most: usize) -> Result<(), AllocError>
+        ensures kept { (self.old.room ≤ self.new.room) × (self.old.other ≤ self.new.other) × (self.old.off_room ≤ self.new.off_room) }
+        ensures room { OnOk result ((most ≤ self.new.room) × (most ≤ self.new.other) × (most ≤ self.new.off_room)) }
+    {
+        self.reserve(most)?;
+        make_room(&mut self.aside, most)?;
+        make_room(&mut self.off, most)
+    }
+
+    /// Frees memory, except the room for this many items, and for this many ephemerons beside them. Clears the list.
+    pub(crate) fn shrink(&mut self, most: usize, rows: usize)
+        ensures room { min most self.old.room ≤ self.new.room }
+        ensures other { min rows self.old.other ≤ self.new.other }
+        ensures off { min rows self.old.off_room ≤ self.new.off_room }
     {
         self.items.clear();
         self.kept = 0;
         self.place = 0;
         self.items.shrink_to(most);
+        self.aside.clear();
+        self.aside.shrink_to(rows);
+        self.off.clear();
+        self.off.shrink_to(rows);
     }
 
-    /// A list of these items, all of which remain to be processed.
-    pub(crate) fn of(items: Vec<Item>) -> Walk
-        ensures { result ≡ record { kept = []; left = items.items; room = vec_capacity items } }
+    /// Lists these items, all of which remain to be processed.
+    pub(crate) fn put(&mut self, items: Vec<Item>)
+        ensures { self.new ≡ record self.old { kept = []; left = items.items; room = vec_capacity items } }
     {
-        Walk {
-            items,
-            kept: 0,
-            place: 0,
-        }
+        self.items = items;
+        self.kept = 0;
+        self.place = 0;
     }
 
     /// The list's room, without items. The list has none left.
     pub(crate) fn take_room(&mut self) -> Vec<Item>
         ensures none { result.items ≡ [] }
         ensures room { vec_capacity result ≡ self.old.room }
+        ensures others { self.new ≡ record self.old { kept = []; left = []; room = self.new.room } }
     {
         let alloc = *self.items.allocator();
-        let Walk {
-            mut items,
-            kept: _,
-            place: _,
-        } = mem::replace(self, Walk::new(alloc));
+        let mut items = mem::replace(&mut self.items, Vec::new(alloc));
+        self.kept = 0;
+        self.place = 0;
         items.clear();
         items
     }
@@ -122,13 +166,20 @@ impl Walk {
         &self.items[self.place..]
     }
 
+    /// The kept items.
+    pub(crate) fn kept(&self) -> &[Item]
+        ensures { result.now ≡ self.now.kept }
+    {
+        &self.items[..self.kept]
+    }
+
     /// Moves past the first remaining item, and keeps it or not.
     #[tactic(auto, using(crate::proofs::Kept::passed, crate::proofs::Kept::passed_set))]
     pub(crate) fn pass_on(&mut self, item: Item, keep: bool)
         requires first { self.old.left ≡ item ∷ drop 1 self.old.left }
         ensures kept { self.new.kept ≡ (if keep then self.old.kept ++ item ∷ [] else self.old.kept) }
         ensures left { self.new.left ≡ drop 1 self.old.left }
-        ensures room { self.new.room ≡ self.old.room }
+        ensures others { self.new ≡ record self.old { kept = self.new.kept; left = self.new.left } }
     {
         if !keep {
             self.place += 1;
@@ -137,6 +188,59 @@ impl Walk {
         self.items[self.kept] = item;
         self.kept += 1;
         self.place += 1;
+    }
+
+    /// Puts an ephemeron off. There is room for it.
+    pub(crate) fn put_off(&mut self, item: Item)
+        requires room { length self.old.off < self.old.off_room }
+        ensures off { self.new ≡ record self.old { off = self.old.off ++ item ∷ []; off_room = self.new.off_room } }
+        ensures room { self.old.off_room ≤ self.new.off_room }
+    {
+        let _ = self.off.push(item);
+    }
+
+    /// Sets the kept items aside, and lists none.
+    pub(crate) fn set_aside(&mut self)
+        ensures { self.new ≡ record { kept = []; left = []; aside = self.old.kept; off = []; room = self.old.other; other = self.old.room; off_room = self.old.off_room } }
+    {
+        self.items.truncate(self.kept);
+        mem::swap(&mut self.items, &mut self.aside);
+        self.items.clear();
+        self.off.clear();
+        self.kept = 0;
+        self.place = 0;
+    }
+
+    /// Starts again with the items that were set aside.
+    pub(crate) fn resume(&mut self)
+        ensures { self.new ≡ record { kept = []; left = self.old.aside; aside = []; off = []; room = self.old.other; other = self.old.room; off_room = self.old.off_room } }
+    {
+        mem::swap(&mut self.items, &mut self.aside);
+        self.aside.clear();
+        self.off.clear();
+        self.kept = 0;
+        self.place = 0;
+    }
+
+    /// Ends a pass early in this phase.
+    pub(crate) fn stop(&mut self, phase: Phase)
+        ensures main { self.new.room ≡ (if settles phase then self.old.other else self.old.room) }
+        ensures rows { self.new.other ≡ (if settles phase then self.old.room else self.old.other) }
+        ensures off { self.new.off_room ≡ self.old.off_room }
+    {
+        if phase.settles() {
+            self.resume();
+        }
+    }
+
+    /// Starts again with the ephemerons that were put off.
+    pub(crate) fn again_off(&mut self)
+        ensures { self.new ≡ record self.old { kept = []; left = self.old.off; off = []; room = self.old.off_room; off_room = self.old.room } }
+    {
+        mem::swap(&mut self.items, &mut self.off);
+        self.off.clear();
+        self.kept = 0;
+        self.place = 0;
     }
 
     /// Removes all items.
@@ -155,6 +259,7 @@ impl Walk {
         ensures kept { self.new.kept ≡ self.old.kept ++ item ∷ [] }
         ensures left { self.new.left ≡ [] }
         ensures room { self.old.room ≤ self.new.room }
+        ensures beside { KeepsBeside self.old self.new }
     {
         self.items.truncate(self.kept);
         let _ = self.items.push(item);
@@ -166,7 +271,7 @@ impl Walk {
     pub(crate) fn again(&mut self)
         ensures kept { self.new.kept ≡ [] }
         ensures left { self.new.left ≡ self.old.kept }
-        ensures room { self.new.room ≡ self.old.room }
+        ensures others { self.new ≡ record self.old { kept = []; left = self.new.left } }
     {
         self.items.truncate(self.kept);
         self.kept = 0;
@@ -177,7 +282,7 @@ impl Walk {
     pub(crate) fn again_in_turn(&mut self)
         ensures kept { self.new.kept ≡ [] }
         ensures left { AreInTurn self.old.kept self.new.left }
-        ensures room { self.new.room ≡ self.old.room }
+        ensures others { self.new ≡ record self.old { kept = []; left = self.new.left } }
     {
         self.items.truncate(self.kept);
         self.kept = 0;

@@ -28,6 +28,8 @@ fn index_of(word: u64) -> usize {
 #[derive(Drop)]
 pub(crate) struct Graph {
     words: [[u64; FIELDS]; OBJECTS],
+    /// Which words are those of ephemerons, which aren't scanned with their objects.
+    keyed: [[bool; FIELDS]; OBJECTS],
     marked: [bool; OBJECTS],
     roots: [bool; OBJECTS],
     gone: [bool; OBJECTS],
@@ -45,8 +47,9 @@ impl Graph {
         let Some(words) = self.words.get(index_of(object)).copied() else {
             return;
         };
-        for word in words.iter() {
-            if !(but_itself && *word == object) {
+        let keyed = self.keyed.get(index_of(object)).copied();
+        for (word, is_keyed) in words.iter().zip(keyed.unwrap_or([false; FIELDS]).iter()) {
+            if !*is_keyed && !(but_itself && *word == object) {
                 self.mark_one(*word);
             }
         }
@@ -85,6 +88,24 @@ impl Graph {
         }
     }
 
+    /// What a word of an object has.
+    fn word(&self, object: u64, field: usize) -> u64 {
+        match self.words.get(index_of(object)) {
+            Some(words) => words.get(field).copied().unwrap_or(0),
+            None => 0,
+        }
+    }
+
+    /// Marks the object to which the word of an ephemeron refers, if to any, and everything that it reaches. Returns whether it wasn't marked.
+    fn mark_value(&mut self, link: u64) -> bool {
+        let word = link.saturating_sub(FIRST_WORD);
+        let value = self.word(word, (word % FIELDS as u64) as usize);
+        let is_new = value != 0 && !self.is_marked(value);
+        self.mark_one(value);
+        self.close();
+        is_new
+    }
+
     /// Answers a question about one object or word, or carries out a command.
     fn answer(&mut self, ask: Ask, about: u64) -> bool {
         match ask {
@@ -115,6 +136,7 @@ impl Graph {
                 }
                 false
             }
+            Ask::MarkValue => self.mark_value(about),
             // `marks_of` answers this.
             Ask::Marks => false,
         }
@@ -133,6 +155,7 @@ impl Asked {
         Asked {
             graph: Graph {
                 words: [[0; FIELDS]; OBJECTS],
+                keyed: [[false; FIELDS]; OBJECTS],
                 marked: [false; OBJECTS],
                 roots: [false; OBJECTS],
                 gone: [false; OBJECTS],
@@ -212,6 +235,47 @@ impl Asked {
         self.machine
             .link(kind, FIRST_WORD.saturating_add(word), to)
             .expect(rt, "a link");
+    }
+
+    /// Makes a word of an object an ephemeron of a key.
+    pub(crate) fn ephemeron(
+        &mut self,
+        rt: &impl Abort,
+        kind: LinkKind,
+        object: u64,
+        field: usize,
+        key: u64,
+    ) {
+        if let Some(keyed) = self.graph.keyed.get_mut(index_of(object)) {
+            if let Some(is_keyed) = keyed.get_mut(field) {
+                *is_keyed = true;
+            }
+        }
+        let word = object.saturating_add(field as u64);
+        self.machine
+            .ephemeron(kind, FIRST_WORD.saturating_add(word), key)
+            .expect(rt, "an ephemeron");
+    }
+
+    /// What a word of an object has.
+    pub(crate) fn word(&self, object: u64, field: usize) -> u64 {
+        self.graph.word(object, field)
+    }
+
+    /// How many ephemerons there are.
+    pub(crate) fn ephemerons(&self) -> u64 {
+        self.machine.finalizers().ephemeron_count()
+    }
+
+    /// How many objects exist, once a collection has reclaimed those that weren't made.
+    pub(crate) fn standing(&self) -> u64 {
+        let mut standing: u64 = 0;
+        for gone in self.graph.gone.iter() {
+            if !*gone {
+                standing = standing.saturating_add(1);
+            }
+        }
+        standing
     }
 
     /// Takes the next entry.

@@ -93,7 +93,7 @@ impl Heap {
                 }
             }
             Ask::Clear => self.cleared = self.cleared.wrapping_mul(31).wrapping_add(about),
-            Ask::Marks => {}
+            Ask::Marks | Ask::MarkValue => {}
         }
         false
     }

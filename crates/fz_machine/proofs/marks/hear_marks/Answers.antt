@@ -12,6 +12,7 @@ use Rattle.fz_machine.proofs.Kept.{first_is}
 use Rattle.fz_machine.proofs.Places.{place_less}
 use Rattle.fz_machine.proofs.Remained.{all_passed}
 use Rattle.fz_machine.proofs.Remaining.{passed_noted}
+use Rattle.fz_machine.proofs.Rooms.{beside_twice}
 use Rattle.fz_machine.proofs.Settling.{none_at}
 use Rattle.fz_machine.proofs.marks.hear_marks.Goals as goal
 
@@ -47,16 +48,18 @@ loop-word-preserved c =
     record {
       heard =
           ap (λ n. steps Objects (marks_say s (take n c.pass_on.new.self.left) (drop (i + 1) c.args.marks.now)) (going_by c.args.finalizers.now c.sift-noted.new.walk c.pass_on.new.self)) less
-          ∙ ap (λ rs. steps Objects (marks_say s (take (asked - i - 1) rs) (drop (i + 1) c.args.marks.now)) (at s c.sift-noted.new.walk.kept (items_in s rs ++ c.sift-noted.new.walk.left))) c.pass_on.ensures.left
-          ∙ ap (λ xs. steps Objects (marks_say s (take (asked - i - 1) rest) (drop (i + 1) c.args.marks.now)) (at s c.sift-noted.new.walk.kept (items_in s rest ++ xs))) (c.sift-noted.ensures.none ∙ sym (on c).0)
-          ∙ sym (heard_one s c.loop-word.walk.kept c.sift-noted.new.walk.kept (region, bits) rest c.loop-word.walk.left word (asked - i) (drop (i + 1) c.args.marks.now) some c.sift-noted.ensures.kept)
-          ∙ ap (λ ws. steps Objects (marks_say s (take (asked - i) ((region, bits) ∷ rest)) ws) (at s c.loop-word.walk.kept (items_in s ((region, bits) ∷ rest) ++ c.loop-word.walk.left))) (sym (word_at c.args.marks.now c.min-asked.result i test))
-          ∙ ap (λ rs. steps Objects (marks_say s (take (asked - i) rs) (drop i c.args.marks.now)) (at s c.loop-word.walk.kept (items_in s rs ++ c.loop-word.walk.left))) (sym (left c))
+          ∙ ap (λ rs. steps Objects (marks_say s (take (asked - i - 1) rs) (drop (i + 1) c.args.marks.now)) (at s c.sift-noted.new.walk.aside c.sift-noted.new.walk.off c.sift-noted.new.walk.kept (items_in s rs ++ c.sift-noted.new.walk.left))) c.pass_on.ensures.left
+          ∙ ap (λ xs. steps Objects (marks_say s (take (asked - i - 1) rest) (drop (i + 1) c.args.marks.now)) (at s c.sift-noted.new.walk.aside c.sift-noted.new.walk.off c.sift-noted.new.walk.kept (items_in s rest ++ xs))) (c.sift-noted.ensures.none ∙ sym (on c).0)
+          ∙ (λ i. steps Objects (marks_say s (take (asked - c.loop-word.word-index - 1) rest) (drop (c.loop-word.word-index + 1) c.args.marks.now)) (at s (c.sift-noted.ensures.beside.0 i) (c.sift-noted.ensures.beside.1 i) c.sift-noted.new.walk.kept (items_in s rest ++ c.loop-word.walk.left)))
+          ∙ sym (heard_one s c.loop-word.walk.aside c.loop-word.walk.off c.loop-word.walk.kept c.sift-noted.new.walk.kept (region, bits) rest c.loop-word.walk.left word (asked - i) (drop (i + 1) c.args.marks.now) some c.sift-noted.ensures.kept)
+          ∙ ap (λ ws. steps Objects (marks_say s (take (asked - i) ((region, bits) ∷ rest)) ws) (at s c.loop-word.walk.aside c.loop-word.walk.off c.loop-word.walk.kept (items_in s ((region, bits) ∷ rest) ++ c.loop-word.walk.left))) (sym (word_at c.args.marks.now c.min-asked.result i test))
+          ∙ ap (λ rs. steps Objects (marks_say s (take (asked - i) rs) (drop i c.args.marks.now)) (at s c.loop-word.walk.aside c.loop-word.walk.off c.loop-word.walk.kept (items_in s rs ++ c.loop-word.walk.left))) (sym (left c))
           ∙ c.loop-word.invariant.heard;
       room = inr (c.sift-noted.ensures.none, omega (arith, kept_long, fewer_kept, old_long, new_long, room, roomier));
       grown = omega (arith, grown, roomier);
       left = c.pass_on.ensures.left ∙ ap (drop 1) c.loop-word.invariant.left ∙ drop-drop 1 i c.args.regions.now.left;
       tabled = let few = c.pass_on.ensures.tabled in let so_far = c.loop-word.invariant.tabled in omega (arith, few, so_far);
+      beside = beside_twice c.args.walk.now c.loop-word.walk c.sift-noted.new.walk c.loop-word.invariant.beside c.sift-noted.ensures.beside;
       none = λ _. c.sift-noted.ensures.none;
       complete = c.pass_on.ensures.same.1 ∙ c.loop-word.invariant.complete;
       noted = λ noted.

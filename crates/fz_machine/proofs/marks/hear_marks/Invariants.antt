@@ -1,7 +1,7 @@
 -- What is left to hear is the same.
 use Rattle.std.proofs.Common.{◌≡◌, ◌≤◌, ◌-◌, [], length, take, drop}
 use Rattle.fz_machine.specs.declared.phase.Phase.TheVariants.{Objects}
-use Rattle.fz_machine.specs.Going.{going_by, HasRoomToKeep}
+use Rattle.fz_machine.specs.Going.{going_by, HasRoomToKeep, KeepsBeside}
 use Rattle.fz_machine.specs.Regions.{marks_say, AreNoted}
 use Rattle.fz_machine.specs.Steps.{steps}
 use Rattle.fz_machine.proofs.marks.hear_marks.Given as goal
@@ -14,6 +14,7 @@ invariant-loop-word l = record {
   grown : l.initial.walk.room ≤ l.walk.room;
   left : l.regions.left ≡ drop l.word-index l.initial.regions.left;
   tabled : length l.regions.order ≤ length l.initial.regions.order;
+  beside : KeepsBeside l.initial.walk l.walk;
   none : l.initial.walk.left ≡ [] → l.walk.left ≡ [];
   complete : l.regions.complete ≡ l.initial.regions.complete;
   noted : AreNoted l.finalizers.state l.initial.regions.order → AreNoted l.finalizers.state l.regions.order;

@@ -8,6 +8,7 @@ use Rattle.fz_machine.specs.declared.item.Item.{Item}
 use Rattle.fz_machine.specs.Regions.{place_in, items_of, objects_in, item_at}
 use Rattle.fz_machine.proofs.Hearing.{fewer}
 use Rattle.fz_machine.proofs.Marked.{AreSifted, all_sifted, first_item, item_is, no_item_is, no_items, none_sifted, one_goes, one_stays, unmarked_items}
+use Rattle.fz_machine.proofs.Rooms.{beside_twice}
 use Rattle.fz_machine.proofs.marks.sift.Goals as goal
 
 -- what is set in the rest without its lowest place is set in the rest
@@ -22,6 +23,7 @@ loop-unmarked-init c =
     let room = c.requires.room in
     record {
       kept = refl;
+      beside = (refl, refl, (refl, refl));
       none = c.requires.none;
       room = omega (arith, is, few, room);
       grown = omega arith;
@@ -53,6 +55,7 @@ loop-unmarked-preserved-in-Some c =
     let within = still_within c.loop-unmarked.unmarked others place (bit_and c.args.bits (bit_not w64 c.args.marks)) c.lowest-place.ensures.set.1 c.lowest-place.ensures.others c.loop-unmarked.invariant.within in
     record {
       kept = ap (λ xs. xs ++ items_of s (objects_in (c.args.region, others))) c.keep.ensures.kept ∙ append_assoc kept (item ∷ []) (items_of s (objects_in (c.args.region, others))) ∙ ap (λ xs. kept ++ xs) (sym first) ∙ c.loop-unmarked.invariant.kept;
+      beside = beside_twice c.args.walk.now c.loop-unmarked.walk c.keep.new.self c.loop-unmarked.invariant.beside c.keep.ensures.beside;
       none = c.keep.ensures.left;
       room = omega (arith, one, more, room, roomier);
       grown = omega (arith, grown, roomier);
@@ -73,6 +76,7 @@ loop-unmarked-preserved c =
     let room = c.loop-unmarked.invariant.room in
     record {
       kept = ap (λ xs. c.loop-unmarked.walk.kept ++ xs) (sym first) ∙ c.loop-unmarked.invariant.kept;
+      beside = c.loop-unmarked.invariant.beside;
       none = c.loop-unmarked.invariant.none;
       room = omega (arith, one, room);
       grown = c.loop-unmarked.invariant.grown;

@@ -1,0 +1,264 @@
+-- Marks become whole: first the keys of ephemerons are asked for, then their holders, and then values are marked; and again for those that are put off.
+use Rattle.std.proofs.Common.{◌≡◌, ◌⊎◌, ◌++◌, ◌∷◌, ◌∙◌, [], ℕ, Bool, true, false, not, List, Option, Some, nat_cmp, refl, sym, ap, subst, inl, inr, ⊎_elim, IsTrue}
+use Rattle.std.proofs.lemmas.Bool.{both_ways, true≢false}
+use Rattle.std.proofs.lemmas.Option.{none-some}
+use Rattle.std.specs.FinMap.{get, get-empty}
+use Rattle.fz_model.specs.Reachability.{Itself}
+use Rattle.fz_model.specs.State.{Map, Object}
+use Rattle.fz_pass.specs.Holds.{Ephemerons, Holds, IsOfKey, IsOfValue, Member, Settles, no_ephemerons}
+use Rattle.fz_pass.specs.Marks.{IsClosed, Marks}
+use Rattle.fz_pass.specs.Places.{is_held}
+use Rattle.fz_pass.specs.Settling.{IsThrough, Waits}
+use Rattle.fz_pass.proofs.Holding.{holder_of, held_by, held_nowhere, holds_value, whole_from}
+use Rattle.fz_machine.specs.declared.item.Item.{Item}
+use Rattle.fz_machine.specs.declared.phase.Phase.{Phase}
+use Rattle.fz_machine.specs.declared.phase.Phase.TheVariants.{Keys, KeysAgain, Holders, Values}
+use Rattle.fz_machine.specs.declared.question.Ask.TheVariants.{IsMarked, IsHolderMarked, MarkValue}
+use Rattle.fz_machine.specs.Graph.{Graph, IsHonest, MayBeAsked}
+use Rattle.fz_machine.specs.Items.{AreEphemerons}
+use Rattle.fz_machine.specs.Phases.{asks, keeps, puts_off, subject}
+use Rattle.fz_machine.proofs.Among.{Each, OneOf, each_append, each_as, each_push, one_last, one_left, one_right}
+use Rattle.fz_machine.proofs.Entered.{links_all, links_each}
+use Rattle.fz_machine.proofs.Phasing.{kept_on}
+use Rattle.fz_machine.proofs.Sifting.{IsAt}
+
+-- whether a value was marked in this round: then it is kept
+abbrev pub is_again : List Item → Bool
+is_again [] = false
+is_again (item ∷ kept) = true
+
+none_kept : (kept : List Item) (item : Item) (answer : Bool) → is_again (kept_on answer kept item) ≡ false → (answer ≡ false) × (is_again kept ≡ false)
+none_kept kept item false off = (refl, off)
+none_kept [] item true off = absurd (true≢false off)
+none_kept (x ∷ kept) item true off = absurd (true≢false off)
+
+module _ (E : Type 0) (word_of : ℕ → Option ℕ) (value : Map Object → ℕ → Option ℕ) (objects : Map Object) (ephemerons : Ephemerons) (old : ℕ → Bool) where
+  abbrev pub IsRow : Item → Type 0
+  IsRow i = IsOfKey ephemerons i.word i.object
+
+  abbrev HasKey : (ℕ → Bool) → Item → Type 0
+  HasKey m i = IsRow i × IsTrue (m i.object)
+
+  abbrev HasBoth : (ℕ → Bool) → Item → Type 0
+  HasBoth m i = HasKey m i × IsTrue (is_held word_of objects m i.word)
+
+  abbrev IsWaiting : (ℕ → Bool) → Item → Type 0
+  IsWaiting m i = Waits E word_of value objects m (i.word, i.object)
+
+  -- those that are put off wait, unless a value was marked since
+  pub record Settling (off : List Item) (again : Bool) (h : Graph) : Type 0 where
+    pub objects_are : h.objects ≡ objects
+    pub closed : IsClosed objects h.marked
+    pub more : (a : ℕ) → IsTrue (old a) → IsTrue (h.marked a)
+    pub most : E → (a : ℕ) → IsTrue (h.marked a) → Holds word_of value objects (IsOfKey ephemerons) (λ b. IsTrue (old b)) a
+    pub none : ephemerons ≡ no_ephemerons → h.marked ≡ old
+    pub off_are : Each IsRow off
+    pub waits : again ≡ false → Each (IsWaiting h.marked) off
+
+  -- each ephemeron is kept, remains, is put off or is through
+  abbrev AreAll : List Item → List Item → List Item → (ℕ → Bool) → Type 0
+  AreAll kept left off m =
+      (word key : ℕ) → IsOfKey ephemerons word key → OneOf (IsAt key word) kept ⊎ (OneOf (IsAt key word) left ⊎ (OneOf (IsAt key word) off ⊎ IsThrough E word_of value objects m (word, key)))
+
+  pub record Sweeps (Left Kept : (ℕ → Bool) → Item → Type 0) (kept left off : List Item) (h : Graph) : Type 0 where
+    pub settling : Settling off false h
+    pub kept_are : Each (Kept h.marked) kept
+    pub left_are : Each (Left h.marked) left
+    pub all : AreAll kept left off h.marked
+
+  pub record Marking (kept left off : List Item) (h : Graph) : Type 0 where
+    pub settling : Settling off (is_again kept) h
+    pub left_are : Each (HasBoth h.marked) left
+    pub all : AreAll [] left off h.marked
+
+  abbrev pub Looks : Phase → List Item → List Item → List Item → Graph → Type 0
+  Looks (Keys moment) kept left off h = Sweeps (λ m. IsRow) HasKey kept left off h
+  Looks (KeysAgain moment) kept left off h = Sweeps (λ m. IsRow) HasKey kept left off h
+  Looks (Holders moment) kept left off h = Sweeps HasKey HasBoth kept left off h
+  Looks (Values moment) kept left off h = Marking kept left off h
+  Looks phase kept left off h = ⊥
+
+  -- ---- one answer
+
+  module _ (Left Kept : (ℕ → Bool) → Item → Type 0) (kept left off : List Item) (item : Item) (h : Graph) (s : Sweeps Left Kept kept (item ∷ left) off h) where
+    passes : Kept h.marked item → Sweeps Left Kept (kept ++ item ∷ []) left off h
+    passes on = record {
+      settling = s.settling;
+      kept_are = each_push (Kept h.marked) kept item s.kept_are on;
+      left_are = s.left_are.1;
+      all = λ word key of. ⊎_elim (λ k. inl (one_left (IsAt key word) kept (item ∷ []) k)) (⊎_elim (by word key) (λ others. inr (inr others))) (s.all word key of);
+    }
+      where
+        by : (word key : ℕ) → OneOf (IsAt key word) (item ∷ left)
+            → OneOf (IsAt key word) (kept ++ item ∷ []) ⊎ (OneOf (IsAt key word) left ⊎ (OneOf (IsAt key word) off ⊎ IsThrough E word_of value objects h.marked (word, key)))
+        by word key (inl at) = inl (one_last (IsAt key word) kept item at)
+        by word key (inr k) = inr (inl k)
+
+    put_off : IsRow item → IsWaiting h.marked item → Sweeps Left Kept kept left (off ++ item ∷ []) h
+    put_off row waits = record {
+      settling = record {
+        objects_are = s.settling.objects_are;
+        closed = s.settling.closed;
+        more = s.settling.more;
+        most = s.settling.most;
+        none = s.settling.none;
+        off_are = each_push IsRow off item s.settling.off_are row;
+        waits = λ none. each_push (IsWaiting h.marked) off item (s.settling.waits none) waits;
+      };
+      kept_are = s.kept_are;
+      left_are = s.left_are.1;
+      all = λ word key of. ⊎_elim inl (⊎_elim (by word key) (⊎_elim (λ k. inr (inr (inl (one_left (IsAt key word) off (item ∷ []) k)))) (λ on. inr (inr (inr on))))) (s.all word key of);
+    }
+      where
+        by : (word key : ℕ) → OneOf (IsAt key word) (item ∷ left)
+            → OneOf (IsAt key word) kept ⊎ (OneOf (IsAt key word) left ⊎ (OneOf (IsAt key word) (off ++ item ∷ []) ⊎ IsThrough E word_of value objects h.marked (word, key)))
+        by word key (inl at) = inr (inr (inl (one_last (IsAt key word) off item at)))
+        by word key (inr k) = inr (inl k)
+
+    -- as the test of this phase says
+    sweeps_on : (test answer : Bool) → answer ≡ test → IsRow item → (test ≡ true → Kept h.marked item) → (test ≡ false → IsWaiting h.marked item)
+        → Sweeps Left Kept (kept_on answer kept item) left (kept_on (not answer) off item) h
+    sweeps_on test true is row on off = passes (on (sym is))
+    sweeps_on test false is row on off = put_off row (off (sym is))
+
+  keys_on : (kept left off : List Item) (item : Item) (h new : Graph) → Sweeps (λ m. IsRow) HasKey kept (item ∷ left) off h → (answer : Bool) → IsHonest E word_of value (Some IsMarked) item.object h answer new
+      → Sweeps (λ m. IsRow) HasKey (kept_on answer kept item) left (kept_on (not answer) off item) new
+  keys_on kept left off item h new s answer honest =
+      let is = honest tt in
+      subst (λ (x : Graph). Sweeps (λ m. IsRow) HasKey (kept_on answer kept item) left (kept_on (not answer) off item) x) (sym is.1)
+      (sweeps_on (λ m. IsRow) HasKey kept left off item h s (h.marked item.object) answer is.0 s.left_are.0 (λ on. (s.left_are.0, on)) (λ off key. absurd (both_ways (h.marked item.object) off key)))
+
+  holders_on : (kept left off : List Item) (item : Item) (h new : Graph) → Sweeps HasKey HasBoth kept (item ∷ left) off h → (answer : Bool) → IsHonest E word_of value (Some IsHolderMarked) item.word h answer new
+      → Sweeps HasKey HasBoth (kept_on answer kept item) left (kept_on (not answer) off item) new
+  holders_on kept left off item h new s answer honest =
+      let is = honest tt in
+      let held : Bool = is_held word_of objects h.marked item.word in
+      subst (λ (x : Graph). Sweeps HasKey HasBoth (kept_on answer kept item) left (kept_on (not answer) off item) x) (sym is.1)
+      (sweeps_on HasKey HasBoth kept left off item h s held answer (is.0 ∙ ap (λ (m : Map Object). is_held word_of m h.marked item.word) s.settling.objects_are) s.left_are.0.0
+      (λ on. (s.left_are.0, on)) (λ off key holder. absurd (both_ways held off holder)))
+
+  -- a holder stays marked
+  held_still : (now new : ℕ → Bool) → ((a : ℕ) → IsTrue (now a) → IsTrue (new a)) → (w : ℕ) → IsTrue (is_held word_of objects now w) → IsTrue (is_held word_of objects new w)
+  held_still now new on w held = ⊎_elim (held_nowhere word_of value objects new w) (λ (o, holder, was). held_by word_of value objects new w o holder (on o was)) (holder_of word_of value objects now w held)
+
+  no_row : (word key : ℕ) → ephemerons ≡ no_ephemerons → IsOfKey ephemerons word key → ⊥
+  no_row word key none = ⊎_elim (λ here. none-some key (sym (ap (λ (e : Ephemerons). get e.short word) none ∙ get-empty nat_cmp word) ∙ here)) (λ here. none-some key (sym (ap (λ (e : Ephemerons). get e.long word) none ∙ get-empty nat_cmp word) ∙ here))
+
+  module _ (kept left off : List Item) (item : Item) (h new : Graph) (s : Marking kept (item ∷ left) off h) (answer : Bool) (same : new.objects ≡ h.objects) (m : Marks E objects h.marked new.marked (IsOfValue value objects item.word))
+      (nothing : answer ≡ false → (a : ℕ) → IsTrue (new.marked a) → IsTrue (h.marked a)) where
+    on_still : (a : ℕ) → IsTrue (h.marked a) → IsTrue (new.marked a)
+    on_still a on = m.least a (inl on)
+
+    still_waits : answer ≡ false → (x : Item) → IsWaiting h.marked x → IsWaiting new.marked x
+    still_waits none x waits key holder = waits (nothing none x.object key) (held_still new.marked h.marked (nothing none) x.word holder)
+
+    still_both : (x : Item) → HasBoth h.marked x → HasBoth new.marked x
+    still_both x on = ((on.0.0, on_still x.object on.0.1), held_still h.marked new.marked on_still x.word on.1)
+
+    marks_value : Marking (kept_on answer kept item) left off new
+    marks_value = record {
+      settling = record {
+        objects_are = same ∙ s.settling.objects_are;
+        closed = m.closed;
+        more = λ a on. on_still a (s.settling.more a on);
+        most = λ exact a on. ⊎_elim (s.settling.most exact a)
+            (λ of. holds_value word_of value objects (IsOfKey ephemerons) (λ b. IsTrue (old b)) h.marked (s.settling.most exact) item.word item.object s.left_are.0.0.0 s.left_are.0.0.1 s.left_are.0.1 a of) (m.most exact a on);
+        none = λ nothing_there. absurd (no_row item.word item.object nothing_there s.left_are.0.0.0);
+        off_are = s.settling.off_are;
+        waits = λ none. let both = none_kept kept item answer none in each_as (IsWaiting h.marked) (IsWaiting new.marked) (still_waits both.0) off (s.settling.waits both.1);
+      };
+      left_are = each_as (HasBoth h.marked) (HasBoth new.marked) still_both left s.left_are.1;
+      all = λ word key of. ⊎_elim inl (⊎_elim (by word key) (⊎_elim (λ k. inr (inr (inl k))) (λ on. inr (inr (inr (λ v points. on_still v (on v points))))))) (s.all word key of);
+    }
+      where
+        by : (word key : ℕ) → OneOf (IsAt key word) (item ∷ left)
+            → OneOf (IsAt key word) [] ⊎ (OneOf (IsAt key word) left ⊎ (OneOf (IsAt key word) off ⊎ IsThrough E word_of value objects new.marked (word, key)))
+        by word key (inl at) = inr (inr (inr (λ v points. m.least v (inr (v, ap (value objects) at.1 ∙ points, Itself)))))
+        by word key (inr k) = inr (inl k)
+
+  values_on : (kept left off : List Item) (item : Item) (h new : Graph) → Marking kept (item ∷ left) off h → (answer : Bool) → IsHonest E word_of value (Some MarkValue) item.word h answer new → Marking (kept_on answer kept item) left off new
+  values_on kept left off item h new s answer honest =
+      let is = honest (subst (λ (m : Map Object). IsClosed m h.marked) (sym s.settling.objects_are) s.settling.closed) in
+      marks_value kept left off item h new s answer is.0.0 (subst (λ (m : Map Object). Marks E m h.marked new.marked (IsOfValue value m item.word)) s.settling.objects_are is.0.1) is.1
+
+  pub looks_on : (phase : Phase) (kept left off : List Item) (item : Item) (h new : Graph) → Looks phase kept (item ∷ left) off h → (answer : Bool) → IsHonest E word_of value (asks phase item) (subject phase item) h answer new
+      → Looks phase (kept_on (keeps phase item answer) kept item) left (kept_on (puts_off phase answer) off item) new
+  looks_on (Keys moment) kept left off item h new s answer honest = keys_on kept left off item h new s answer honest
+  looks_on (KeysAgain moment) kept left off item h new s answer honest = keys_on kept left off item h new s answer honest
+  looks_on (Holders moment) kept left off item h new s answer honest = holders_on kept left off item h new s answer honest
+  looks_on (Values moment) kept left off item h new s answer honest = values_on kept left off item h new s answer honest
+  looks_on phase kept left off item h new s answer honest = absurd s
+
+  pub looks_may : (phase : Phase) (kept left off : List Item) (item : Item) (h : Graph) → Looks phase kept (item ∷ left) off h → MayBeAsked (asks phase item) (subject phase item) h
+  looks_may (Keys moment) kept left off item h s = tt
+  looks_may (KeysAgain moment) kept left off item h s = tt
+  looks_may (Holders moment) kept left off item h s = tt
+  looks_may (Values moment) kept left off item h s = subst (λ (m : Map Object). IsClosed m h.marked) (sym s.settling.objects_are) s.settling.closed
+  looks_may phase kept left off item h s = absurd s
+
+  -- ---- from phase to phase
+
+  pub looks_begin : (items : List Item) (h : Graph) → h.objects ≡ objects → h.marked ≡ old → IsClosed objects old → AreEphemerons ephemerons items → Sweeps (λ m. IsRow) HasKey [] items [] h
+  looks_begin items h objects_are marks_are closed (shorts, longs, short_are, long_are, is) = record {
+    settling = record {
+      objects_are = objects_are;
+      closed = subst (IsClosed objects) (sym marks_are) closed;
+      more = λ a on. subst (λ (m : ℕ → Bool). IsTrue (m a)) (sym marks_are) on;
+      most = λ exact a on. Member (subst (λ (m : ℕ → Bool). IsTrue (m a)) marks_are on);
+      none = λ _. marks_are;
+      off_are = tt;
+      waits = λ _. tt;
+    };
+    kept_are = tt;
+    left_are = subst (Each IsRow) (sym is)
+        (each_append IsRow shorts longs (each_as (λ i. get ephemerons.short i.word ≡ Some i.object) IsRow (λ i here. inl here) shorts (links_each ephemerons.short shorts short_are))
+        (each_as (λ i. get ephemerons.long i.word ≡ Some i.object) IsRow (λ i here. inr here) longs (links_each ephemerons.long longs long_are)));
+    all = λ word key of. inr (inl (subst (OneOf (IsAt key word)) (sym is)
+        (⊎_elim (λ here. one_left (IsAt key word) shorts longs (links_all ephemerons.short shorts short_are key word here)) (λ here. one_right (IsAt key word) shorts longs (links_all ephemerons.long longs long_are key word here)) of)));
+  }
+
+  pub to_holders : (kept items off : List Item) (h : Graph) → Sweeps (λ m. IsRow) HasKey kept [] off h → items ≡ kept → Sweeps HasKey HasBoth [] items off h
+  to_holders kept items off h s is = record {
+    settling = s.settling;
+    kept_are = tt;
+    left_are = subst (Each (HasKey h.marked)) (sym is) s.kept_are;
+    all = λ word key of. inr (⊎_elim (λ k. inl (subst (OneOf (IsAt key word)) (sym is) k)) (⊎_elim (λ k. absurd k) (λ others. inr others)) (s.all word key of));
+  }
+
+  pub to_values : (kept items off : List Item) (h : Graph) → Sweeps HasKey HasBoth kept [] off h → items ≡ kept → Marking [] items off h
+  to_values kept items off h s is = record {
+    settling = s.settling;
+    left_are = subst (Each (HasBoth h.marked)) (sym is) s.kept_are;
+    all = λ word key of. inr (⊎_elim (λ k. inl (subst (OneOf (IsAt key word)) (sym is) k)) (⊎_elim (λ k. absurd k) (λ others. inr others)) (s.all word key of));
+  }
+
+  -- those that were put off are looked at again
+  pub to_keys : (kept items off : List Item) (h : Graph) → Marking kept [] off h → items ≡ off → Sweeps (λ m. IsRow) HasKey [] items [] h
+  to_keys kept items off h s is = record {
+    settling = record {
+      objects_are = s.settling.objects_are;
+      closed = s.settling.closed;
+      more = s.settling.more;
+      most = s.settling.most;
+      none = s.settling.none;
+      off_are = tt;
+      waits = λ _. tt;
+    };
+    kept_are = tt;
+    left_are = subst (Each IsRow) (sym is) s.settling.off_are;
+    all = λ word key of. inr (⊎_elim (λ k. absurd k) (⊎_elim (λ k. absurd k) (⊎_elim (λ k. inl (subst (OneOf (IsAt key word)) (sym is) k)) (λ on. inr (inr on)))) (s.all word key of));
+  }
+
+  waiting_row : (m : ℕ → Bool) (word key : ℕ) (off : List Item) → Each (IsWaiting m) off → OneOf (IsAt key word) off → Waits E word_of value objects m (word, key)
+  waiting_row m word key [] waits k = absurd k
+  waiting_row m word key (x ∷ off) waits (inl at) = λ on held. waits.0 (ap m at.0 ∙ on) (ap (is_held word_of objects m) at.1 ∙ held)
+  waiting_row m word key (x ∷ off) waits (inr k) = waiting_row m word key off waits.1 k
+
+  -- no value was marked, so the marks are whole
+  pub is_settled : (off : List Item) (h : Graph) → Marking [] [] off h → Settles word_of value objects (IsOfKey ephemerons) E old h.marked
+  is_settled off h s = record {
+    more = s.settling.more;
+    whole = whole_from word_of value objects (IsOfKey ephemerons) h.marked s.settling.closed
+        (λ word key of on held v points. ⊎_elim (λ k. absurd k) (⊎_elim (λ k. absurd k) (⊎_elim (λ k. absurd (waiting_row h.marked word key off (s.settling.waits refl) k on held)) (λ through. through v points))) (s.all word key of));
+    most = s.settling.most;
+  }
