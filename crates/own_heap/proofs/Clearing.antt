@@ -10,8 +10,8 @@ use Rattle.fz_model.proofs.Maps.{filling, get-mapped}
 use Rattle.own_heap.specs.declared.record.Field.{Field}
 use Rattle.own_heap.specs.declared.record.Field.TheVariants.{Nothing}
 use Rattle.own_heap.specs.declared.record.Record.{Record}
-use Rattle.own_heap.specs.Records.{place_of, start_of, word_of, words_of, object_of, objects_of, with_field}
-use Rattle.own_heap.proofs.Slots.{object_in, get-objects, address_at, slot_at}
+use Rattle.own_heap.specs.Records.{field_at, place_of, start_of, word_of, words_of, object_of, objects_of, with_field, AreFieldsKept}
+use Rattle.own_heap.proofs.Slots.{object_in, get-objects, address_at, slice_low, slot_at}
 
 -- ---- words
 
@@ -120,3 +120,22 @@ clears slots word place is = at (get_or slots place None) refl
         low : (place < length slots) ⊎ (length slots ≤ place) → place < length slots
         low (inl less) = less
         low (inr past) = absurd (none-some r (sym (get_or_past slots place None past) ∙ slot))
+
+-- a field is unchanged, or it is the one that was emptied
+pub fields_cleared : (slots : List (Option Record)) (place k : ℕ) → AreFieldsKept slots (set slots place (option_map (with_field k Nothing) (get_or slots place None)))
+fields_cleared slots place k p j =
+    ⊎_elim (λ (is : p ≡ place). subst (λ q. (field_at new q j ≡ field_at slots q j) ⊎ (field_at new q j ≡ Some Nothing)) (sym is) (at (get_or slots place None) refl))
+    (λ far. inl (ap field (get_or-set_other slots place p (option_map (with_field k Nothing) (get_or slots place None)) None far))) (cases_eq p place)
+  where
+    new : List (Option Record)
+    new = set slots place (option_map (with_field k Nothing) (get_or slots place None))
+
+    field : Option Record → Option Field
+    field = option_map (λ (r : Record). get_or r.fields j Nothing)
+
+    at : (s : Option Record) → get_or slots place None ≡ s → (field_at (set slots place (option_map (with_field k Nothing) s)) place j ≡ field_at slots place j) ⊎ (field_at (set slots place (option_map (with_field k Nothing) s)) place j ≡ Some Nothing)
+    at None is = inl (ap (λ xs. field_at xs place j) (set_same slots place None is))
+    at (Some r) is =
+        let now = ap field (get_or-set_same slots place (Some (with_field k Nothing r)) None (slice_low slots place r is)) in
+        ⊎_elim (λ (same : j ≡ k). inr (now ∙ ap Some (ap (λ i. get_or (set r.fields k Nothing) i Nothing) same ∙ emptied r.fields k)))
+        (λ (other : j ≢ k). inl (now ∙ ap Some (get_or-set_other r.fields k j Nothing Nothing other) ∙ sym (ap field is))) (cases_eq j k)

@@ -12,12 +12,12 @@ use Rattle.own_heap.specs.declared.record.Record.{Record}
 use Rattle.own_heap.specs.Records.{word_of, words_of, object_of}
 use Rattle.own_heap.specs.Marking.{IsTargetBut, IsChildBut}
 
-word_at : (r : Record) (k d : ℕ) → k < 4 → slice_index_or (words_of r) k d ≡ word_of (get_or r.fields k Nothing)
-word_at r zero d low = refl
-word_at r (suc zero) d low = refl
-word_at r (suc (suc zero)) d low = refl
-word_at r (suc (suc (suc zero))) d low = refl
-word_at r (suc (suc (suc (suc k)))) d low = absurd (omega arith)
+pub word_in : (r : Record) (k d : ℕ) → k < 4 → slice_index_or (words_of r) k d ≡ word_of (get_or r.fields k Nothing)
+word_in r zero d low = refl
+word_in r (suc zero) d low = refl
+word_in r (suc (suc zero)) d low = refl
+word_in r (suc (suc (suc zero))) d low = refl
+word_in r (suc (suc (suc (suc k)))) d low = absurd (omega arith)
 
 -- one of the first fields refers to it
 abbrev pub IsFieldOf : Map Object → Record → ℕ → ℕ → Type 0
@@ -30,13 +30,13 @@ child_fields objects r a b here = (
       let k = c.within.0 in
       let low : k < 4 = subst (λ (o : Object). k < length o.words) same c.within.1 in
       let word = subst (λ (o : Object). slice_index_or o.words k c.word ≡ c.word) same c.within.2 in
-      (k, low, ap (points objects) (sym (word_at r k c.word low) ∙ word) ∙ c.pointed),
+      (k, low, ap (points objects) (sym (word_in r k c.word low) ∙ word) ∙ c.pointed),
   λ (k, low, pointed). record {
     object = object_of r;
     here = here;
     scanned = refl;
     word = word_of (get_or r.fields k Nothing);
-    within = (k, low, word_at r k (word_of (get_or r.fields k Nothing)) low);
+    within = (k, low, word_in r k (word_of (get_or r.fields k Nothing)) low);
     pointed = pointed;
   },
 )

@@ -5,7 +5,7 @@ use Rattle.std.proofs.lemmas.Option.{none-some, same_Some}
 use Rattle.std.proofs.lemmas.List.Elements.{Contains-append_left, Contains-push, Contains-push_cases}
 use Rattle.std.specs.Option.{option_map_or}
 use Rattle.own_heap.specs.declared.marks.Marks.{Marks}
-use Rattle.own_heap.specs.Records.{place_of}
+use Rattle.own_heap.specs.Records.{address_of, place_of}
 use Rattle.own_heap.specs.Marking.{is_in, is_marked, Gains}
 use Rattle.own_heap.proofs.Slots.{address_at}
 
@@ -29,7 +29,7 @@ marked_at marked place object is low a = at (place_of a) refl
     at (Some i) here =
         ⊎_elim
         (λ (same : i ≡ place). (
-          λ _. inr (address_at a i here ∙ ap (λ k. (k + 1) * 4) same ∙ sym (address_at object place is)),
+          λ _. inr (address_at a i here ∙ ap address_of same ∙ sym (address_at object place is)),
           λ _. ap (λ k. get_or (set marked place true) k false) same ∙ get_or-set_same marked place true false low,
         ))
         (λ (other : i ≢ place). (

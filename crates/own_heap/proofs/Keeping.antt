@@ -1,5 +1,5 @@
 -- What is registered stays there.
-use Rattle.std.proofs.Common.{◌≡◌, ◌≢◌, ℕ, ◌+◌, ◌<◌, length, map, set, get_or, Result, Ok, Err, OnOk, OnErr, MatchOption, get_or-set_same, get_or-set_other, ◌&&◌, not, Bool, true, false, cond, List, Option, Some, None, is_some, option_map, refl, sym, ap, ◌∙◌, subst, ⊎_elim, IsTrue, arith, ◌∷◌, [], Contains, ◌++◌, ◌⊎◌, inr, append_assoc, drop, take, filter, slice_get, zero, suc}
+use Rattle.std.proofs.Common.{◌≡◌, ◌≢◌, ℕ, ◌+◌, ◌<◌, length, map, set, get_or, Result, Ok, Err, OnOk, OnErr, MatchOption, get_or-set_same, get_or-set_other, ◌&&◌, not, Bool, true, false, cond, List, Option, Some, None, is_some, option_map, refl, sym, ap, ◌∙◌, subst, ⊎_elim, IsTrue, arith, ◌∷◌, [], Contains, ◌++◌, ◌⊎◌, inl, inr, append_assoc, drop, take, filter, slice_get, zero, suc}
 use Rattle.std.proofs.lemmas.Bool.{both_ways, cases_eq, and_parts, and_from}
 use Rattle.std.proofs.lemmas.Option.{same_Some, none-some}
 use Rattle.std.specs.Option.{option_map_or}
@@ -7,13 +7,14 @@ use Rattle.std.specs.FinMap.{get, insert, remove, contains_key, get-empty}
 use Rattle.std.specs.Ordering.{nat_cmp}
 use Rattle.fz_model.specs.declared.answers.Registration.{Registration}
 use Rattle.fz_model.specs.State.{Map, Object}
-use Rattle.fz_model.specs.Memory.{filled}
-use Rattle.fz_model.specs.Pass.{cleared, FoundItself, LedFrom}
-use Rattle.fz_model.specs.Reachability.{Itself}
+use Rattle.fz_model.specs.Pass.{cleared}
 use Rattle.fz_model.proofs.Maps.{get-insert_same, get-insert_other, get-remove_same, get-remove_other, get-retain, retained_back}
 use Rattle.fz_model.proofs.Sound.{left_back}
 use Rattle.fz_pass.specs.Decides.{Parts}
-use Rattle.fz_pass.specs.Flagged.{DecidesFlagged, IsLast}
+use Rattle.fz_pass.specs.Holds.{Ephemerons, Member}
+use Rattle.fz_pass.specs.Keyed.{has_ephemeron}
+use Rattle.fz_pass.specs.Whole.{DecidesWhole, IsPickedThen, objects_judged}
+use Rattle.fz_pass.proofs.Filling.{has_filled}
 use Rattle.fz_pass.specs.Marks.{AreRegistered, AreTargets}
 use Rattle.fz_pass.specs.Places.{placed, is_held, links_held}
 use Rattle.own_heap.specs.declared.heap.Heap.{Heap}
@@ -28,16 +29,15 @@ use Rattle.fz_model.specs.declared.kinds.LinkKind.{LinkKind}
 use Rattle.fz_model.specs.declared.kinds.LinkKind.TheVariants.{Short, Long}
 use Rattle.fz_model.specs.Steps.{moved_to, registration_of}
 use Rattle.fz_model.specs.Pass.{is_dead}
-use Rattle.fz_model.proofs.Maps.{get-mapped, filling}
 use Rattle.fz_finalizers.specs.declared.kinds.Finalizer.{Finalizer}
 use Rattle.fz_finalizers.specs.Kinds.{table_finalizer}
 use Rattle.fz_finalizers.specs.States.{State, opening, links_of, unfinished, waiting, with_links}
 use Rattle.fz_finalizers.specs.declared.cleanups.Attached.{Attached}
 use Rattle.fz_finalizers.specs.declared.cleanups.Cleanup.{Cleanup}
 use Rattle.fz_finalizers.specs.Cleanups as cleanups
-use Rattle.fz_finalizers.specs.Follows.{Cleans, Follows, Register, Unregister, Link, Unlink, Move, Take, Finish, AddCleanup, Cancel, with_registration, without_registration, with_cleanup, without_cleanup}
+use Rattle.fz_finalizers.specs.Follows.{Cleans, Follows, Register, Unregister, Link, Unlink, Move, Ephemeron, EndEphemeron, MoveEphemeron, Take, Finish, AddCleanup, Cancel, with_registration, without_registration, with_cleanup, without_cleanup}
 use Rattle.fz_model.specs.declared.answers.Pick.{Pick}
-use Rattle.fz_model.specs.Pass.{entries_of, IsPicked}
+use Rattle.fz_model.specs.Pass.{entries_of}
 use Rattle.std.proofs.lemmas.List.Elements.{All-contains, Contains-append_cases, Contains-append_left, Contains-append_right}
 use Rattle.std.proofs.lemmas.List.{take-append-drop}
 use Rattle.fz_model.proofs.Lists as lists
@@ -89,6 +89,8 @@ sound_kept old new s kept sound = record {
   registered = λ a r is. kept a (sound.registered a r is);
   short = λ link target is. kept target (sound.short link target is);
   long = λ link target is. kept target (sound.long link target is);
+  short_keys = λ word key is. kept key (sound.short_keys word key is);
+  long_keys = λ word key is. kept key (sound.long_keys word key is);
   held = λ e here some. kept e.obj (sound.held e here some);
 }
 
@@ -132,20 +134,22 @@ sound_opening objects = record {
   registered = λ a r is. absurd (none-some r (sym (get-empty nat_cmp a) ∙ is));
   short = λ a r is. absurd (none-some r (sym (get-empty nat_cmp a) ∙ is));
   long = λ a r is. absurd (none-some r (sym (get-empty nat_cmp a) ∙ is));
+  short_keys = λ a r is. absurd (none-some r (sym (get-empty nat_cmp a) ∙ is));
+  long_keys = λ a r is. absurd (none-some r (sym (get-empty nat_cmp a) ∙ is));
   held = λ e within some. absurd (omega (arith, within.1));
 }
 
 with_registration_sound : (objects : Map Object) (s : State) (o : ℕ) (f : Finalizer) → IsTrue (contains_key objects o) → IsSound objects s → IsSound objects (with_registration s o f)
 with_registration_sound objects s o f here sound =
-    record { registered = registered_more objects s.registrations o (registration_of s.next_number (table_finalizer f)) here sound.registered; short = sound.short; long = sound.long; held = sound.held }
+    record { registered = registered_more objects s.registrations o (registration_of s.next_number (table_finalizer f)) here sound.registered; short = sound.short; long = sound.long; short_keys = sound.short_keys; long_keys = sound.long_keys; held = sound.held }
 
 pub register_sound : {A E : Type 0} (objects : Map Object) (old new : State) (o : ℕ) (f : Finalizer) (r : Result A E) → OnErr r (new ≡ old) → OnOk r (Follows old (Register o f) new) → IsTrue (contains_key objects o) → IsSound objects old → IsSound objects new
 register_sound objects old new o f (Ok x) refused follows here sound = subst (IsSound objects) (sym follows) (with_registration_sound objects old o f here sound)
 register_sound objects old new o f (Err e) refused follows here sound = subst (IsSound objects) (sym refused) sound
 
 with_links_sound : (objects : Map Object) (s : State) (kind : LinkKind) (links : Map ℕ) → AreTargets objects links → IsSound objects s → IsSound objects (with_links s kind links)
-with_links_sound objects s Short links are sound = record { registered = sound.registered; short = are; long = sound.long; held = sound.held }
-with_links_sound objects s Long links are sound = record { registered = sound.registered; short = sound.short; long = are; held = sound.held }
+with_links_sound objects s Short links are sound = record { registered = sound.registered; short = are; long = sound.long; short_keys = sound.short_keys; long_keys = sound.long_keys; held = sound.held }
+with_links_sound objects s Long links are sound = record { registered = sound.registered; short = sound.short; long = are; short_keys = sound.short_keys; long_keys = sound.long_keys; held = sound.held }
 
 targets_of : (objects : Map Object) (s : State) (kind : LinkKind) → IsSound objects s → AreTargets objects (links_of s kind)
 targets_of objects s Short sound = sound.short
@@ -158,7 +162,7 @@ link_sound objects old new kind word target (Ok x) refused follows here sound =
 link_sound objects old new kind word target (Err e) refused follows here sound = subst (IsSound objects) (sym refused) sound
 
 without_registration_sound : (objects : Map Object) (s : State) (o : ℕ) → IsSound objects s → IsSound objects (without_registration s o)
-without_registration_sound objects s o sound = record { registered = registered_less objects s.registrations o sound.registered; short = sound.short; long = sound.long; held = sound.held }
+without_registration_sound objects s o sound = record { registered = registered_less objects s.registrations o sound.registered; short = sound.short; long = sound.long; short_keys = sound.short_keys; long_keys = sound.long_keys; held = sound.held }
 
 pub unregister_sound : (objects : Map Object) (old new : State) (o : ℕ) → Follows old (Unregister o) new → IsSound objects old → IsSound objects new
 unregister_sound objects old new o follows sound = subst (IsSound objects) (sym follows) (without_registration_sound objects old o sound)
@@ -173,6 +177,35 @@ move_sound objects old new kind word to (Ok x) refused follows sound =
     subst (IsSound objects) (sym follows) (with_links_sound objects old kind (moved_to links word to (get links word)) (targets_moved objects links word to (targets_of objects old kind sound)) sound)
 move_sound objects old new kind word to (Err e) refused follows sound = subst (IsSound objects) (sym refused) sound
 
+with_ephemerons_sound : (objects : Map Object) (s : State) (e : Ephemerons) → AreTargets objects e.short → AreTargets objects e.long → IsSound objects s → IsSound objects (record s { ephemerons = e })
+with_ephemerons_sound objects s e short long sound =
+    record { registered = sound.registered; short = sound.short; long = sound.long; short_keys = short; long_keys = long; held = sound.held }
+
+pub ephemeron_sound : {A E : Type 0} (objects : Map Object) (old new : State) (kind : LinkKind) (word key : ℕ) (r : Result A E) → OnErr r (new ≡ old) → OnOk r (Follows old (Ephemeron kind word key) new) → IsTrue (contains_key objects key) → IsSound objects old → IsSound objects new
+ephemeron_sound objects old new Short word key (Ok x) refused follows here sound =
+    let e = old.ephemerons in
+    subst (IsSound objects) (sym follows) (with_ephemerons_sound objects old _ (targets_more objects e.short word key here sound.short_keys) (targets_less objects e.long word sound.long_keys) sound)
+ephemeron_sound objects old new Long word key (Ok x) refused follows here sound =
+    let e = old.ephemerons in
+    subst (IsSound objects) (sym follows) (with_ephemerons_sound objects old _ (targets_less objects e.short word sound.short_keys) (targets_more objects e.long word key here sound.long_keys) sound)
+ephemeron_sound objects old new kind word key (Err x) refused follows here sound = subst (IsSound objects) (sym refused) sound
+
+pub end_ephemeron_sound : (objects : Map Object) (old new : State) (word : ℕ) → Follows old (EndEphemeron word) new → IsSound objects old → IsSound objects new
+end_ephemeron_sound objects old new word follows sound =
+    let e = old.ephemerons in
+    subst (IsSound objects) (sym follows) (with_ephemerons_sound objects old _ (targets_less objects e.short word sound.short_keys) (targets_less objects e.long word sound.long_keys) sound)
+
+pub move_ephemeron_sound : {A E : Type 0} (objects : Map Object) (old new : State) (word to : ℕ) (r : Result A E) → OnErr r (new ≡ old) → OnOk r (Follows old (MoveEphemeron word to) new) → IsSound objects old → IsSound objects new
+move_ephemeron_sound objects old new word to (Ok x) refused follows sound = subst (IsSound objects) (sym follows) (by (has_ephemeron old.ephemerons to))
+  where
+    e : Ephemerons
+    e = old.ephemerons
+
+    by : (b : Bool) → IsSound objects (record old { ephemerons = cond b e (record { short = moved_to e.short word to (get e.short word); long = moved_to e.long word to (get e.long word) }) })
+    by true = with_ephemerons_sound objects old e sound.short_keys sound.long_keys sound
+    by false = with_ephemerons_sound objects old _ (targets_moved objects e.short word to sound.short_keys) (targets_moved objects e.long word to sound.long_keys) sound
+move_ephemeron_sound objects old new word to (Err x) refused follows sound = subst (IsSound objects) (sym refused) sound
+
 -- what is taken isn't finished, as before
 taken_unfinished : (s : State) (entry : Entry) → slice_get s.queue s.taken ≡ Some entry → unfinished s ≡ (s.held ++ entry ∷ []) ++ drop (s.taken + 1) s.queue
 taken_unfinished s entry at = ap (λ es. s.held ++ es) (next_waits s.queue s.taken entry at) ∙ sym (append_assoc s.held (entry ∷ []) (drop (s.taken + 1) s.queue))
@@ -183,6 +216,8 @@ take_sound objects old new (Some entry) follows sound = subst (IsSound objects) 
   registered = sound.registered;
   short = sound.short;
   long = sound.long;
+  short_keys = sound.short_keys;
+  long_keys = sound.long_keys;
   held = λ e here some. sound.held e (subst (λ es. Contains es e) (sym (taken_unfinished old entry follows.0)) here) some;
 })
 
@@ -191,6 +226,8 @@ with_finished_sound objects s entry sound = record {
   registered = sound.registered;
   short = sound.short;
   long = sound.long;
+  short_keys = sound.short_keys;
+  long_keys = sound.long_keys;
   held = λ e here some.
       ⊎_elim
       (λ (left : Contains (filter stays s.held) e).
@@ -205,14 +242,14 @@ with_finished_sound objects s entry sound = record {
     stays h = not (same_entry entry h)
 
 with_cleanup_sound : (objects : Map Object) (s : State) (o : ℕ) (c : Cleanup) → IsSound objects s → IsSound objects (with_cleanup s o c)
-with_cleanup_sound objects s o c sound = record { registered = sound.registered; short = sound.short; long = sound.long; held = sound.held }
+with_cleanup_sound objects s o c sound = record { registered = sound.registered; short = sound.short; long = sound.long; short_keys = sound.short_keys; long_keys = sound.long_keys; held = sound.held }
 
 pub add_sound : {A E : Type 0} (objects : Map Object) (old new : State) (o : ℕ) (c : Cleanup) (r : Result A E) → OnErr r (new ≡ old) → OnOk r (Follows old (AddCleanup o c) new) → IsSound objects old → IsSound objects new
 add_sound objects old new o c (Ok x) refused follows sound = subst (IsSound objects) (sym follows) (with_cleanup_sound objects old o c sound)
 add_sound objects old new o c (Err e) refused follows sound = subst (IsSound objects) (sym refused) sound
 
 without_cleanup_sound : (objects : Map Object) (s : State) (number : ℕ) → IsSound objects s → IsSound objects (without_cleanup s number)
-without_cleanup_sound objects s number sound = record { registered = sound.registered; short = sound.short; long = sound.long; held = sound.held }
+without_cleanup_sound objects s number sound = record { registered = sound.registered; short = sound.short; long = sound.long; short_keys = sound.short_keys; long_keys = sound.long_keys; held = sound.held }
 
 pub cancel_sound : (objects : Map Object) (old new : State) (number : ℕ) → Follows old (Cancel number) new → IsSound objects old → IsSound objects new
 cancel_sound objects old new number follows sound = subst (IsSound objects) (sym follows) (without_cleanup_sound objects old number sound)
@@ -265,6 +302,8 @@ module _ (objects : Map Object) (pass : ℕ) (test : Attached → Bool) (s t : S
     registered = subst (λ (u : State). AreRegistered objects u.registrations) (sym cleans.2) sound.registered;
     short = subst (λ (u : State). AreTargets objects u.short) (sym cleans.2) sound.short;
     long = subst (λ (u : State). AreTargets objects u.long) (sym cleans.2) sound.long;
+    short_keys = subst (λ (u : State). AreTargets objects u.ephemerons.short) (sym cleans.2) sound.short_keys;
+    long_keys = subst (λ (u : State). AreTargets objects u.ephemerons.long) (sym cleans.2) sound.long_keys;
     held = λ e here some. sound.held e (cleans_back e here some) some;
   }
 
@@ -275,26 +314,28 @@ within_back place objects links targets containers link target is =
     let test = (and_parts (option_map_or targets (get links link) false) (is_held place objects containers link) back.0).0 in
     (back.1, sym (ap (λ o. option_map_or targets o false) back.1) ∙ test)
 
-module _ (E : Type 0) (place : ℕ → Option ℕ) (late : ℕ → Bool) (pass first : ℕ) (old : Parts) (found : ℕ → Bool) (new : Parts) (queue new_queue : List Entry) (d : DecidesFlagged E place late pass first old found new queue new_queue) where
-  abbrev short : Map ℕ
-  short = placed place old.short
-
-  abbrev long : Map ℕ
-  long = placed place old.long
-
+module _ (E : Type 0) (place : ℕ → Option ℕ) (value : Map Object → ℕ → Option ℕ) (late : ℕ → Bool) (pass first : ℕ) (old : Parts) (ephemerons : Ephemerons) (found : ℕ → Bool) (new : Parts) (left : Ephemerons) (queue new_queue : List Entry)
+    (d : DecidesWhole E place value late pass first old ephemerons found new left queue new_queue) where
   -- the objects that were kept remain, and no others
   remains : (a : ℕ) → contains_key new.objects a ≡ (d.kept a && contains_key old.objects a)
-  remains a = ap (λ (p : Parts). contains_key p.objects a) d.is ∙ ap is_some (get-retain (cleared long d.kept (cleared short found old.objects)) d.kept a) ∙ by (d.kept a)
+  remains a = ap (λ (p : Parts). contains_key p.objects a) d.is ∙ ap is_some (get-retain last d.kept a) ∙ by (d.kept a)
     where
-      same : {X Y : Type 0} (f : X → Y) (o : Option X) → is_some (option_map f o) ≡ is_some o
-      same f None = refl
-      same f (Some x) = refl
+      begun : Map Object
+      begun = cleared (placed place old.short) found old.objects
 
-      filled_keys : (test : ℕ → Bool) (m : Map Object) (a : ℕ) → contains_key (filled test 0 m) a ≡ contains_key m a
-      filled_keys test m a = ap is_some (get-mapped (filling test 0) m a) ∙ same (filling test 0 a) (get m a)
+      judged : Map Object
+      judged = objects_judged place value old ephemerons found
 
-      by : (b : Bool) → is_some (cond b (get (cleared long d.kept (cleared short found old.objects)) a) None) ≡ (b && contains_key old.objects a)
-      by true = filled_keys (is_dead (cleared short found old.objects) long d.kept) (cleared short found old.objects) a ∙ filled_keys (is_dead old.objects short found) old.objects a
+      late_cleared : Map Object
+      late_cleared = cleared (placed place old.long) d.kept judged
+
+      last : Map Object
+      last = cleared (placed place ephemerons.long) d.kept late_cleared
+
+      by : (b : Bool) → is_some (cond b (get last a) None) ≡ (b && contains_key old.objects a)
+      by true =
+          has_filled (is_dead late_cleared (placed place ephemerons.long) d.kept) 0 late_cleared a ∙ has_filled (is_dead judged (placed place old.long) d.kept) 0 judged a
+          ∙ has_filled (is_dead begun (placed place ephemerons.short) found) 0 begun a ∙ has_filled (is_dead old.objects (placed place old.short) found) 0 old.objects a
       by false = refl
 
   pub kept_stands : (a : ℕ) → IsTrue (d.kept a) → IsTrue (contains_key old.objects a) → IsTrue (contains_key new.objects a)
@@ -303,15 +344,15 @@ module _ (E : Type 0) (place : ℕ → Option ℕ) (late : ℕ → Bool) (pass f
   pub left_kept : (a : ℕ) → IsTrue (contains_key new.objects a) → IsTrue (d.kept a) × IsTrue (contains_key old.objects a)
   left_kept a left = and_parts (d.kept a) (contains_key old.objects a) (sym (remains a) ∙ left)
 
-  found_kept : (a : ℕ) → IsTrue (found a) → IsTrue (d.kept a)
-  found_kept a on = d.keeps a (FoundItself on)
+  pub found_kept : (a : ℕ) → IsTrue (found a) → IsTrue (d.kept a)
+  found_kept a on = d.keeps a (Member (inl on))
 
   registered_kept : (a : ℕ) (r : Registration) → get old.registrations a ≡ Some r → IsTrue (contains_key old.objects a) → IsTrue (d.kept a)
   registered_kept a r is here = at (found a) refl
     where
       at : (b : Bool) → found a ≡ b → IsTrue (d.kept a)
       at true on = found_kept a on
-      at false off = d.keeps a (LedFrom a r (record { registered = is; outside = and_from (contains_key old.objects a) (not (found a)) here (ap not off) }) Itself)
+      at false off = d.keeps a (Member (inr (r, record { registered = is; outside = and_from (contains_key old.objects a) (not (found a)) here (ap not off) })))
 
   -- what was kept of the registrations and the links is sound
   pub passed_registered : AreRegistered old.objects old.registrations → AreRegistered new.objects new.registrations
@@ -329,10 +370,20 @@ module _ (E : Type 0) (place : ℕ → Option ℕ) (late : ℕ → Bool) (pass f
       let was = within_back place old.objects old.long d.kept d.kept link target (sym (ap (λ (p : Parts). get p.long link) d.is) ∙ is) in
       kept_stands target was.1 (all link target was.0)
 
+  pub passed_short_keys : AreTargets old.objects ephemerons.short → AreTargets new.objects left.short
+  passed_short_keys all word key is =
+      let was = within_back place old.objects ephemerons.short found d.kept word key (sym (ap (λ (e : Ephemerons). get e.short word) d.left) ∙ is) in
+      kept_stands key (found_kept key was.1) (all word key was.0)
+
+  pub passed_long_keys : AreTargets old.objects ephemerons.long → AreTargets new.objects left.long
+  passed_long_keys all word key is =
+      let was = within_back place old.objects ephemerons.long d.kept d.kept word key (sym (ap (λ (e : Ephemerons). get e.long word) d.left) ∙ is) in
+      kept_stands key was.1 (all word key was.0)
+
   -- a pick's object is kept
   picked_kept : (p : Pick) → Contains d.picks p → IsTrue (contains_key new.objects p.obj)
   picked_kept p within =
-      let picked = (All-contains (λ (q : Pick). IsPicked old.objects old.registrations short found q × (IsTrue (late q.obj) → IsLast place old found q.obj)) d.picks p d.picked.each within).0 in
+      let picked = All-contains (IsPickedThen place value old ephemerons found late) d.picks p d.picked.each within in
       let here = ap is_some picked.here in
       kept_stands p.obj (registered_kept p.obj picked.registration picked.unreachable.registered here) here
 

@@ -5,8 +5,12 @@ pub mod Fields
 pub mod Traced
 pub mod Collected
 pub mod References
+pub mod Valued
 pub mod Keeping
 pub mod Holding
 pub mod Pointed
 pub mod Guarding
 pub mod Weak
+pub mod Without
+pub mod KeyedPairs
+pub mod KeptValues

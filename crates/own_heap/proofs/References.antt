@@ -1,5 +1,5 @@
 -- References are children, and a record that is made is an object more.
-use Rattle.std.proofs.Common.{◌≡◌, ◌≢◌, ℕ, ◌↔◌, false, List, set, get_or, Option, Some, None, option_map, is_some, refl, sym, ap, ◌∙◌, subst, ⊎_elim, arith, IsTrue, get_or-set_same, get_or-set_other}
+use Rattle.std.proofs.Common.{◌≡◌, ◌≢◌, ℕ, ◌+◌, ◌↔◌, false, List, set, get_or, Option, Some, None, option_map, is_some, refl, sym, ap, ◌∙◌, subst, ⊎_elim, arith, IsTrue, get_or-set_same, get_or-set_other}
 use Rattle.std.proofs.lemmas.Bool.{cases_eq, both_ways}
 use Rattle.std.proofs.lemmas.Option.{same_Some, none-some}
 use Rattle.std.specs.Cmp.{nat_cmp_total}
@@ -9,12 +9,19 @@ use Rattle.fz_model.specs.Memory.{points}
 use Rattle.fz_model.specs.Reachability.{Child}
 use Rattle.fz_model.proofs.Maps.{get-insert_same, get-insert_other}
 use Rattle.own_heap.specs.declared.record.Field.{Field}
-use Rattle.own_heap.specs.declared.record.Field.TheVariants.{Nothing, Number, Reference}
+use Rattle.own_heap.specs.declared.record.Field.TheVariants.{Nothing, Number, Reference, Hidden}
 use Rattle.own_heap.specs.declared.record.Record.{Record}
 use Rattle.own_heap.specs.declared.record.RecordId.{RecordId}
 use Rattle.own_heap.specs.Records.{address_of, place_of, start_of, word_of, object_of, objects_of, slot, RefersTo, IsMade}
 use Rattle.own_heap.proofs.Fields.{child_fields}
 use Rattle.own_heap.proofs.Slots.{stands, slot_at, place_of-address, points_is, object_in, get-objects, address_at}
+
+-- an object is a record
+pub stands_at : (slots : List (Option Record)) (b : RecordId) (o : Object) → get (objects_of slots) (address_of b.place) ≡ Some o → IsTrue (is_some (slot slots b.place))
+stands_at slots b o here =
+    let s = stands slots (address_of b.place) o here in
+    let place = same_Some s.place b.place (sym s.at ∙ place_of-address b.place) in
+    ap is_some (ap (slot slots) (sym place) ∙ s.slot)
 
 -- a field points to a record just if it refers to it
 field_points : (slots : List (Option Record)) (f : Field) (b : RecordId) → points (objects_of slots) (word_of f) ≡ Some (address_of b.place) → (f ≡ Reference b) × IsTrue (is_some (slot slots b.place))
@@ -23,22 +30,17 @@ field_points slots f b is = at f (get (objects_of slots) (start_of (word_of f)))
     same : (x : RecordId) → x.place ≡ b.place → x ≡ b
     same x e = λ i. record { place = e i }
 
-    stands_at : (o : Object) → get (objects_of slots) (address_of b.place) ≡ Some o → IsTrue (is_some (slot slots b.place))
-    stands_at o here =
-        let s = stands slots (address_of b.place) o here in
-        let place = same_Some s.place b.place (sym s.at ∙ place_of-address b.place) in
-        ap is_some (ap (slot slots) (sym place) ∙ s.slot)
-
     at : (f : Field) (o : Option Object) → get (objects_of slots) (start_of (word_of f)) ≡ o → option_map (λ _. start_of (word_of f)) o ≡ Some (address_of b.place) → (f ≡ Reference b) × IsTrue (is_some (slot slots b.place))
     at f None here e = absurd (none-some (address_of b.place) e)
     at Nothing (Some o) here e = absurd (let zero = same_Some 0 (address_of b.place) e in omega (arith, zero))
     at (Number n) (Some o) here e = absurd (let zero = same_Some 0 (address_of b.place) e in omega (arith, zero))
+    at (Hidden id) (Some o) here e = absurd (let start = same_Some (start_of (address_of id.place + 4)) (address_of b.place) e in omega (arith, start))
     at (Reference id) (Some o) here e =
         let start = same_Some (start_of (address_of id.place)) (address_of b.place) e in
         let place : id.place ≡ b.place = omega (arith, start) in
-        (ap Reference (same id place), stands_at o (subst (λ a. get (objects_of slots) a ≡ Some o) start here))
+        (ap Reference (same id place), stands_at slots b o (subst (λ a. get (objects_of slots) a ≡ Some o) start here))
 
-reference_points : (slots : List (Option Record)) (b : RecordId) → IsTrue (is_some (slot slots b.place)) → points (objects_of slots) (address_of b.place) ≡ Some (address_of b.place)
+pub reference_points : (slots : List (Option Record)) (b : RecordId) → IsTrue (is_some (slot slots b.place)) → points (objects_of slots) (address_of b.place) ≡ Some (address_of b.place)
 reference_points slots b here = points_is slots (address_of b.place) ∙ ap (λ a. option_map (λ _. a) (get (objects_of slots) a)) start ∙ at (slot slots b.place) refl here
   where
     start : start_of (address_of b.place) ≡ address_of b.place

@@ -26,21 +26,21 @@ use Rattle.own_heap.specs.Marking.{IsAmong}
 pub place_of-address : (i : ℕ) → place_of (address_of i) ≡ Some i
 unfolding place_of
 place_of-address i =
-    let on = and_from (((i + 1) * 4) % 4 == 0) (nat_le 4 ((i + 1) * 4)) (eq-eqb _ _ (omega arith)) (le-leb _ _ (omega arith)) in
-    let back : ((i + 1) * 4) / 4 - 1 ≡ i = omega arith in
-    ap (λ b. cond b (Some (((i + 1) * 4) / 4 - 1)) None) on ∙ ap Some back
+    let on = and_from (((i + 1) * 8) % 8 == 0) (nat_le 8 ((i + 1) * 8)) (eq-eqb _ _ (omega arith)) (le-leb _ _ (omega arith)) in
+    let back : ((i + 1) * 8) / 8 - 1 ≡ i = omega arith in
+    ap (λ b. cond b (Some (((i + 1) * 8) / 8 - 1)) None) on ∙ ap Some back
 
 pub address_at : (a i : ℕ) → place_of a ≡ Some i → a ≡ address_of i
 unfolding place_of
-address_at a i e = at (a % 4 == 0 && nat_le 4 a) refl e
+address_at a i e = at (a % 8 == 0 && nat_le 8 a) refl e
   where
-    at : (b : Bool) → (a % 4 == 0 && nat_le 4 a) ≡ b → cond b (Some (a / 4 - 1)) None ≡ Some i → a ≡ address_of i
+    at : (b : Bool) → (a % 8 == 0 && nat_le 8 a) ≡ b → cond b (Some (a / 8 - 1)) None ≡ Some i → a ≡ address_of i
     at false is e = absurd (none-some i e)
     at true is e =
-        let parts = and_parts (a % 4 == 0) (nat_le 4 a) is in
-        let even = eqb-true (a % 4) 0 parts.0 in
-        let above = leb-true 4 a parts.1 in
-        let back = same_Some (a / 4 - 1) i e in
+        let parts = and_parts (a % 8 == 0) (nat_le 8 a) is in
+        let even = eqb-true (a % 8) 0 parts.0 in
+        let above = leb-true 8 a parts.1 in
+        let back = same_Some (a / 8 - 1) i e in
         omega (arith, even, above, back)
 
 -- ---- objects

@@ -6,3 +6,4 @@ pub mod Sound
 pub mod Collected
 pub mod Pointing
 pub mod Guarding
+pub mod Keyed

@@ -1,34 +1,35 @@
 -- The records as the objects of the model: each has one word for each field.
--- code: own_heap/src/record.rt, records.rt, law.rt
+-- code: own_heap/src/record.rt, records.rt, host.rt, law.rt
 use Rattle.std.specs.Prelude.{◌≡◌, ◌≢◌, ◌⊎◌, ◌↔◌, is_some, IsTrue, ◌<◌, ◌≤◌, length, Contains, option_map, slice_set, ℕ, ◌+◌, ◌-◌, ◌*◌, ◌/◌, ◌%◌, ◌==◌, ◌&&◌, if◌then◌else◌, List, [], ◌∷◌, map, Option, Some, None, nat_le, slice_index_or}
 use Rattle.std.specs.List.{range_with_len}
 use Rattle.std.specs.FinMap.{from_entries, insert}
 use Rattle.fz_model.specs.declared.kinds.ObjKind.TheVariants.{Scanned}
 use Rattle.fz_model.specs.State.{Map, Object}
-use Rattle.fz_model.specs.Memory.{points}
+use Rattle.fz_model.specs.Memory.{points, word_at}
 use Rattle.fz_model.specs.Reachability.{Child, Leads}
 use Rattle.own_heap.specs.declared.record.Field.{Field}
-use Rattle.own_heap.specs.declared.record.Field.TheVariants.{Nothing, Number, Reference}
+use Rattle.own_heap.specs.declared.record.Field.TheVariants.{Nothing, Number, Reference, Hidden}
 use Rattle.own_heap.specs.declared.record.Record.{Record}
 use Rattle.own_heap.specs.declared.record.RecordId.{RecordId}
-use Rattle.own_heap.specs.declared.record.TheConstants.{FIELDS}
+use Rattle.own_heap.specs.declared.record.TheConstants.{FIELDS, SPACING}
 
 -- the address of the record at an index, and the index of the record at an address
 abbrev pub address_of : ℕ → ℕ
-address_of place = (place + 1) * FIELDS
+address_of place = (place + 1) * SPACING
 
 unfoldable pub place_of : ℕ → Option ℕ
-place_of address = if address % FIELDS == 0 && nat_le FIELDS address then Some (address / FIELDS - 1) else None
+place_of address = if address % SPACING == 0 && nat_le SPACING address then Some (address / SPACING - 1) else None
 
--- the address of the record that would contain the word
+-- the address of the record that would contain the word; of a number past the fields of a record it is no record's address
 abbrev pub start_of : ℕ → ℕ
 start_of word = word - word % FIELDS
 
--- a reference is the address of its record, and any other field points to nothing
+-- a reference is the address of its record, and any other field points to nothing: a hidden reference is the number past the fields of its record
 abbrev pub word_of : Field → ℕ
 word_of Nothing = 0
 word_of (Number n) = 0
 word_of (Reference id) = address_of id.place
+word_of (Hidden id) = address_of id.place + FIELDS
 
 abbrev pub words_of : Record → List ℕ
 words_of r = map (λ k. word_of (slice_index_or r.fields k Nothing)) (range_with_len 0 FIELDS)
@@ -75,6 +76,10 @@ field_at slots place k = option_map (λ (r : Record). slice_index_or r.fields k 
 abbrev pub AreFieldsKept : List (Option Record) → List (Option Record) → Type 0
 AreFieldsKept old new = (place k : ℕ) → (field_at new place k ≡ field_at old place k) ⊎ (field_at new place k ≡ Some Nothing)
 
+-- the value of an ephemeron: the record that the field with this address hides
+abbrev pub value_of : Map Object → ℕ → Option ℕ
+value_of objects word = points objects (word_at objects word - FIELDS)
+
 -- the record that contains the word reaches it
 abbrev pub IsLedByWord : Map Object → ℕ → ℕ → Type 0
 IsLedByWord objects word a = (from : ℕ) × (points objects word ≡ Some from) × Leads objects from a
@@ -95,6 +100,17 @@ pub record RefersTo (slots : List (Option Record)) (a b : RecordId) : Type 0 whe
 -- the children of an object are the records to which its record refers
 abbrev pub ReferencesAreChildren : List (Option Record) → Type 0
 ReferencesAreChildren slots = (a b : RecordId) → RefersTo slots a b ↔ Child (objects_of slots) (address_of a.place) (address_of b.place)
+
+-- a field of one record hides a reference to another record that exists
+pub record Hides (slots : List (Option Record)) (a : RecordId) (field : ℕ) (b : RecordId) : Type 0 where
+  pub from : Record
+  pub at : slot slots a.place ≡ Some from
+  pub is : slice_index_or from.fields field Nothing ≡ Hidden b
+  pub exists : IsTrue (is_some (slot slots b.place))
+
+-- the value of a field as an ephemeron is the record that it hides, if it hides one
+abbrev pub HiddenAreValues : List (Option Record) → Type 0
+HiddenAreValues slots = (a b : RecordId) (field : ℕ) → field < FIELDS → Hides slots a field b ↔ (value_of (objects_of slots) (address_of a.place + field) ≡ Some (address_of b.place))
 
 -- making a record adds exactly one object
 abbrev pub MadeIsInserted : List (Option Record) → List (Option Record) → Type 0

@@ -1,4 +1,4 @@
--- Registered addresses, the targets of links and the objects of unfinished entries are addresses of existing records.
+-- Registered addresses, the targets of links, the keys of ephemerons and the objects of unfinished entries are addresses of existing records.
 -- code: own_heap/src/runtime.rt
 use Rattle.std.specs.Prelude.{◌≢◌, Contains, IsTrue}
 use Rattle.std.specs.FinMap.{contains_key}
@@ -15,4 +15,6 @@ pub record IsSound (objects : Map Object) (s : State) : Type 0 where
   pub registered : AreRegistered objects s.registrations
   pub short : AreTargets objects s.short
   pub long : AreTargets objects s.long
+  pub short_keys : AreTargets objects s.ephemerons.short
+  pub long_keys : AreTargets objects s.ephemerons.long
   pub held : HeldStand objects s

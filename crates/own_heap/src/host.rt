@@ -3,14 +3,14 @@
 ghost use Rattle.std.specs.Prelude.{◌≡◌, refl};
 ghost use Rattle.std.proofs.Common.{◌∙◌};
 ghost use Rattle.own_heap.specs.Outside.{place_of_link, links_apart};
-ghost use Rattle.own_heap.specs.Records.{objects_of, AreFieldsKept};
+ghost use Rattle.own_heap.specs.Records.{objects_of, value_of, AreFieldsKept};
 ghost use Rattle.own_heap.specs.Marking.{is_marked};
 ghost use Rattle.own_heap.specs.Kept.{kept_itself, kept_on};
 
 use crate::heap::Heap;
 use crate::record::place_of_link;
 use fz_model::Addr;
-use fz_pass::Host;
+use fz_pass::{Host, Values};
 
 impl Host for Heap {
     ghost objects = { λ h. objects_of h.records.slots.items };
@@ -70,4 +70,20 @@ impl Host for Heap {
     ghost transitive = { λ f g h p q. (q.0 ∙ p.0, q.1 ∙ p.1, q.2 ∙ p.2, kept_on f.records.slots.items g.records.slots.items h.records.slots.items p.3 q.3) };
 
     ghost apart = { links_apart };
+}
+
+// The marker doesn't follow a hidden reference.
+impl Values for Heap {
+    ghost value = { value_of };
+
+    fn mark_value(&mut self, word: Addr) -> bool {
+        let Some(object) = self.records.value(word) else {
+            return false;
+        };
+        if self.marks.contains(object) {
+            return false;
+        }
+        self.mark(object);
+        true
+    }
 }

@@ -9,6 +9,9 @@ use fz_model::{Addr, Word};
 /// The number of fields of a record.
 pub const FIELDS: usize = 4;
 
+/// The distance between the addresses of records. The numbers past the fields of a record lie in no record: they stand for hidden references.
+pub const SPACING: u64 = 8;
+
 /// The first number of a link that lies in no record. All addresses of fields are smaller.
 pub const OUTSIDE: Addr = 0x8000_0000_0000_0000;
 
@@ -25,6 +28,8 @@ pub enum Field {
     Number(u64),
     /// A reference to a record, which retains it.
     Reference(RecordId),
+    /// A reference that the marker doesn't follow: the value of an ephemeron. If the field isn't an ephemeron, nothing retains the record.
+    Hidden(RecordId),
 }
 
 /// A record in the heap.
@@ -40,7 +45,7 @@ impl RecordId {
     pub fn address(self) -> Addr
         ensures { result ≡ address_of self.place }
     {
-        (u64::from(self.place) + 1) * FIELDS as u64
+        (u64::from(self.place) + 1) * SPACING
     }
 
     /// The address of one of its fields, which is used as the word of a link.
@@ -53,12 +58,13 @@ impl RecordId {
 }
 
 impl Field {
-    /// The address of the record to which the field refers, or 0.
+    /// The address of the record to which the field refers, or the number past the fields of the record that it hides, or 0.
     pub(crate) fn word(self) -> Word
         ensures { result ≡ word_of self }
     {
         match self {
             Field::Reference(id) => id.address(),
+            Field::Hidden(id) => id.address() + FIELDS as u64,
             Field::Nothing | Field::Number(_) => 0,
         }
     }
@@ -76,9 +82,8 @@ pub(crate) fn place_of_link(word: Addr) -> Option<Addr>
 pub(crate) fn place_of(address: Addr) -> Option<usize>
     ensures { result ≡ place_of address }
 {
-    let fields = FIELDS as u64;
-    if address % fields == 0 && fields <= address {
-        Some((address / fields) as usize - 1)
+    if address % SPACING == 0 && SPACING <= address {
+        Some((address / SPACING) as usize - 1)
     } else {
         None
     }

@@ -3,7 +3,7 @@
 ghost use Rattle.std.specs.Prelude.{◌≡◌, ◌+◌, ◌<◌, None, Some, option_map, length, slice_set, MatchOption};
 ghost use Rattle.std.specs.FinMap.{get, contains_key};
 ghost use Rattle.fz_model.specs.Memory.{points, written};
-ghost use Rattle.own_heap.specs.Records.{object_of, objects_of, slot, with_field, AreFieldsKept, IsFull};
+ghost use Rattle.own_heap.specs.Records.{object_of, objects_of, slot, value_of, with_field, AreFieldsKept, IsFull};
 
 use crate::record::{FIELDS, Field, Record, place_of};
 use fz_model::{Addr, Word};
@@ -40,6 +40,20 @@ impl Records {
     {
         let start = word - word % FIELDS as u64;
         self.at(start).is_some().then_some(start)
+    }
+
+    /// The value of an ephemeron: the record that the field with this address hides.
+    pub(crate) fn value(&self, word: Addr) -> Option<Addr>
+        ensures { result ≡ value_of (objects_of self.now.slots.items) word }
+    {
+        let Some(start) = self.holder(word) else {
+            return None;
+        };
+        let Some(read) = self.at(start) else {
+            return None;
+        };
+        let field = read.fields[(word % FIELDS as u64) as usize];
+        self.holder(field.word().saturating_sub(FIELDS as u64))
     }
 
     /// Writes a field of the record at an index, if there is one.

@@ -3,9 +3,11 @@
 ghost use Rattle.std.specs.Prelude.{◌≡◌, ◌+◌, ◌++◌, ◌∷◌, ◌⊎◌, ◌^◌, [], ◌<◌, if◌then◌else◌, is_some, length, option_map, replicate, slice_set, IfErr, IfOk, IfSome, IsTrue, MatchOption, OnErr, OnOk, None};
 ghost use Rattle.std.specs.FinMap.{contains_key, get};
 ghost use Rattle.fz_model.specs.Steps.{move_answer, old_of};
+ghost use Rattle.fz_pass.specs.Keyed.{ephemeron_at, has_ephemeron, of_kind};
+ghost use Rattle.fz_pass.specs.Keyed as keyed;
 ghost use Rattle.fz_finalizers.specs.Causes.{IsJudgedBy, IsJudgedOrLacks, add_causes, finish_causes, link_causes, move_causes, register_causes};
 ghost use Rattle.fz_finalizers.specs.States.{HasRooms, links_of, opening, room_of, waiting};
-ghost use Rattle.fz_finalizers.specs.Follows.{Follows, Register, Unregister, Link, Unlink, Move, AddCleanup, Cancel, Take, Finish, next_pass};
+ghost use Rattle.fz_finalizers.specs.Follows.{Follows, Register, Unregister, Link, Unlink, Move, Ephemeron, EndEphemeron, MoveEphemeron, AddCleanup, Cancel, Take, Finish, next_pass};
 ghost use Rattle.own_heap.specs.Outside.{place_of_link};
 ghost use Rattle.own_heap.specs.Records.{address_of, addresses_of, objects_of, slot, with_field, IsFull, IsMade};
 ghost use Rattle.fz_pass.specs.Marks.{IsClosed};
@@ -185,6 +187,52 @@ impl Runtime {
         self.finalizers.move_link(kind, word, to)
     }
 
+    /// Makes a word an ephemeron of an existing record, its key, in place of the one that it may be. What the field with this address hides (`Field::Hidden`)
+    /// is retained by it only as long as the record in which the field lies and the key are.
+    pub fn ephemeron(
+        &mut self,
+        kind: LinkKind,
+        word: Addr,
+        key: RecordId,
+    ) -> Result<LinkAnswer, Refused>
+        requires { IsTrue (is_some (slot self.old.heap.records.slots.items key.place)) }
+        ensures heap { self.new.heap ≡ self.old.heap }
+        ensures judged { IsJudgedOrLacks (link_causes (of_kind self.old.finalizers.ephemerons kind) word (address_of key.place)) result }
+        ensures fresh { IfErr result (λ r. r ≡ Refused.NoMemory → get (of_kind self.old.finalizers.ephemerons kind) word ≡ None) }
+        ensures answer { IfOk result (λ answer. answer ≡ (if has_ephemeron self.old.finalizers.ephemerons word then LinkAnswer.Duplicate else LinkAnswer.Success)) }
+        ensures refused { OnErr result (self.new.finalizers.state ≡ self.old.finalizers.state) }
+        ensures follows { OnOk result (Follows self.old.finalizers.state (Ephemeron kind word (address_of key.place)) self.new.finalizers.state) }
+    {
+        self.finalizers.ephemeron(kind, word, key.address())
+    }
+
+    /// Ends the ephemeron of a word, and returns its kind and the address of its key. The field stays the same, but nothing retains what it hides.
+    pub fn end_ephemeron(&mut self, word: Addr) -> Option<(LinkKind, Addr)>
+        ensures heap { self.new.heap ≡ self.old.heap }
+        ensures answer { result ≡ ephemeron_at self.old.finalizers.ephemerons word }
+        ensures follows { Follows self.old.finalizers.state (EndEphemeron word) self.new.finalizers.state }
+    {
+        self.finalizers.end_ephemeron(word)
+    }
+
+    /// Moves an ephemeron from one word to another; its kind and its key stay the same, and so do both fields. Fails with `Zero` if the other word is 0.
+    pub fn move_ephemeron(&mut self, word: Addr, to: Addr) -> Result<MoveAnswer, Refused>
+        ensures heap { self.new.heap ≡ self.old.heap }
+        ensures judged { IsJudgedBy (move_causes to) result }
+        ensures refused { OnErr result (self.new.finalizers.state ≡ self.old.finalizers.state) }
+        ensures answer { IfOk result (λ answer. answer ≡ keyed.move_answer self.old.finalizers.ephemerons word to) }
+        ensures follows { OnOk result (Follows self.old.finalizers.state (MoveEphemeron word to) self.new.finalizers.state) }
+    {
+        self.finalizers.move_ephemeron(word, to)
+    }
+
+    /// The kind of a word's ephemeron, and the address of its key.
+    pub fn key(&self, word: Addr) -> Option<(LinkKind, Addr)>
+        ensures { result ≡ ephemeron_at self.now.finalizers.ephemerons word }
+    {
+        self.finalizers.key(word)
+    }
+
     /// Adds a cleanup to an existing record.
     pub fn add_cleanup(&mut self, id: RecordId, cleanup: Cleanup) -> Result<u64, Refused>
         requires { IsTrue (is_some (slot self.old.heap.records.slots.items id.place)) }
@@ -245,8 +293,8 @@ impl Runtime {
         stuck(alloc, &self.finalizers, &self.heap)
     }
 
-    /// A collection: marks what the roots, the unfinished entries and the client data reach, runs the finalizers' pass, and frees all other records, those
-    /// among them whose cleanups were queued.
+    /// A collection: marks what the roots, the unfinished entries and the client data reach, runs the finalizers' pass, with ephemerons, and frees all other
+    /// records, those among them whose cleanups were queued.
     pub fn collect(&mut self) -> Passed
         ensures collected { Collects (objects_of self.old.heap.records.slots.items) self.old.heap.roots.items self.old.finalizers.state (objects_of self.new.heap.records.slots.items) self.new.finalizers.state }
         ensures pass { result.pass ≡ next_pass self.old.finalizers.passes }
@@ -259,7 +307,7 @@ impl Runtime {
         mark_kept(&mut self.heap, &self.finalizers, Root::HeldObject);
         mark_kept(&mut self.heap, &self.finalizers, Root::HeldData);
         mark_kept(&mut self.heap, &self.finalizers, Root::RegisteredData);
-        let passed = self.finalizers.pass(&mut self.heap);
+        let passed = self.finalizers.pass_with_ephemerons(&mut self.heap);
         self.heap.sweep();
         passed
     }

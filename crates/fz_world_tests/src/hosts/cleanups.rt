@@ -90,6 +90,20 @@ fn register(rt: &impl Abort, records: &mut Records, record: usize, procedure: u6
     }
 }
 
+/// A cleanup: when it is due, its procedure, the record that is its client data if any, and its rank.
+fn cleanup_of(
+    rt: &impl Abort,
+    records: &Records,
+    (when, procedure, data, rank): (LinkKind, u64, Option<usize>, u8),
+) -> Cleanup {
+    Cleanup {
+        when,
+        procedure,
+        client_data: address_of(rt, records, data),
+        rank,
+    }
+}
+
 /// Adds a cleanup to a record.
 fn attach(rt: &impl Abort, records: &mut Records, record: usize, cleanup: Cleanup) {
     let id = id_of(rt, records, record);
@@ -108,6 +122,18 @@ fn take(rt: &impl Abort, records: &mut Records) -> Entry {
     entry
 }
 
+/// Takes the next entry, which has this procedure, number and record.
+fn take_this(
+    rt: &impl Abort,
+    records: &mut Records,
+    (procedure, number, record): (u64, u64, Option<usize>),
+) {
+    let entry = take(rt, records);
+    let object = address_of(rt, records, record);
+    let found = (entry.proc, entry.reg, entry.obj);
+    must_be(rt, found, (procedure, number, object), "the entry");
+}
+
 /// Finishes the entry that was taken last.
 fn finish(rt: &impl Abort, records: &mut Records) {
     let entry = records.taken.pop().expect(rt, "an entry");
@@ -124,12 +150,7 @@ fn carry_out(rt: &impl Abort, records: &mut Records, step: Step) {
         }
         Step::Register(record, procedure) => register(rt, records, record, procedure),
         Step::Attach(record, when, procedure, data, rank) => {
-            let cleanup = Cleanup {
-                when,
-                procedure,
-                client_data: address_of(rt, records, data),
-                rank,
-            };
+            let cleanup = cleanup_of(rt, records, (when, procedure, data, rank));
             attach(rt, records, record, cleanup);
         }
         Step::Cancel(number, was) => {
@@ -147,10 +168,7 @@ fn carry_out(rt: &impl Abort, records: &mut Records, step: Step) {
             must_be(rt, records.runtime.collect().picked, picked, "picked");
         }
         Step::Take(procedure, number, record) => {
-            let entry = take(rt, records);
-            let object = address_of(rt, records, record);
-            let found = (entry.proc, entry.reg, entry.obj);
-            must_be(rt, found, (procedure, number, object), "the entry");
+            take_this(rt, records, (procedure, number, record));
         }
         Step::Finish => finish(rt, records),
         Step::Stands(record, stands) => {

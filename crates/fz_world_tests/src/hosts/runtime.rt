@@ -115,6 +115,22 @@ fn a_registration_is_removed_once(rt: HostRuntime) {
     must_be(&rt, runtime.heap().stands(leaf), false, "it is gone");
 }
 
+/// Moves a link, and compares the answer.
+fn moves(
+    rt: &impl Abort,
+    runtime: &mut Runtime,
+    kind: LinkKind,
+    (word, to): (u64, u64),
+    want: Result<MoveAnswer, Refused>,
+) {
+    must_be(rt, runtime.move_link(kind, word, to), want, "a move");
+}
+
+/// Removes a link, and compares the answer.
+fn unlinks(rt: &impl Abort, runtime: &mut Runtime, kind: LinkKind, word: u64, was: bool) {
+    must_be(rt, runtime.unlink(kind, word), was, "whether there was one");
+}
+
 #[test]
 fn a_link_moves_and_goes(rt: HostRuntime) {
     let mut runtime = Runtime::new(rt.alloc(), 8).expect(&rt, "a runtime");
@@ -122,48 +138,20 @@ fn a_link_moves_and_goes(rt: HostRuntime) {
     let stem = made(&rt, &mut runtime, [Nothing; FIELDS]);
     link(&rt, &mut runtime, stem, leaf);
     link(&rt, &mut runtime, leaf, stem);
-    let from = stem.word(1);
-    must_be(
-        &rt,
-        runtime.move_link(LinkKind::Short, from, 0),
-        Err(Refused::Zero),
-        "0",
-    );
+    let (from, other) = (stem.word(1), leaf.word(1));
+    let (short, long) = (LinkKind::Short, LinkKind::Long);
+    let refused = Err(Refused::Zero);
+    moves(&rt, &mut runtime, short, (from, 0), refused);
     let none = Ok(MoveAnswer::NotFound);
-    must_be(
-        &rt,
-        runtime.move_link(LinkKind::Long, from, OUTSIDE),
-        none,
-        "no long one",
-    );
+    moves(&rt, &mut runtime, long, (from, OUTSIDE), none);
     let duplicate = Ok(MoveAnswer::Duplicate);
-    must_be(
-        &rt,
-        runtime.move_link(LinkKind::Short, from, leaf.word(1)),
-        duplicate,
-        "the other's",
-    );
+    moves(&rt, &mut runtime, short, (from, other), duplicate);
     let moved = Ok(MoveAnswer::Success);
-    must_be(
-        &rt,
-        runtime.move_link(LinkKind::Short, from, OUTSIDE),
-        moved,
-        "out of the heap",
-    );
-    must_be(&rt, runtime.target(LinkKind::Short, from), None, "it left");
-    let at = runtime.target(LinkKind::Short, OUTSIDE);
+    moves(&rt, &mut runtime, short, (from, OUTSIDE), moved);
+    must_be(&rt, runtime.target(short, from), None, "it left");
+    let at = runtime.target(short, OUTSIDE);
     must_be(&rt, at, Some(leaf.address()), "the same target");
-    must_be(
-        &rt,
-        runtime.unlink(LinkKind::Long, OUTSIDE),
-        false,
-        "no long one",
-    );
-    must_be(
-        &rt,
-        runtime.unlink(LinkKind::Short, OUTSIDE),
-        true,
-        "it goes",
-    );
-    must_be(&rt, runtime.unlink(LinkKind::Short, OUTSIDE), false, "once");
+    unlinks(&rt, &mut runtime, long, OUTSIDE, false);
+    unlinks(&rt, &mut runtime, short, OUTSIDE, true);
+    unlinks(&rt, &mut runtime, short, OUTSIDE, false);
 }

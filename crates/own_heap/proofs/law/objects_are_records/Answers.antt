@@ -1,4 +1,5 @@
 use Rattle.own_heap.proofs.References.{references_are_children, made_is_inserted}
+use Rattle.own_heap.proofs.Valued.{hidden_are_values}
 use Rattle.own_heap.proofs.law.objects_are_records.Goals as goal
 
 pub returns-clause-children : goal.returns-clause-children
@@ -6,3 +7,6 @@ returns-clause-children c = references_are_children
 
 pub returns-clause-made : goal.returns-clause-made
 returns-clause-made c = made_is_inserted
+
+pub returns-clause-hidden : goal.returns-clause-hidden
+returns-clause-hidden c = hidden_are_values

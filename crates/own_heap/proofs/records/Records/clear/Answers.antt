@@ -1,7 +1,7 @@
-use Rattle.std.proofs.Common.{sym, ap, ◌∙◌}
-use Rattle.own_heap.specs.Records.{start_of, objects_of}
+use Rattle.std.proofs.Common.{◌%◌, sym, ap, ◌∙◌, subst}
+use Rattle.own_heap.specs.Records.{start_of, objects_of, AreFieldsKept}
 use Rattle.own_heap.proofs.Slots.{nowhere}
-use Rattle.own_heap.proofs.Clearing.{clears_nothing, clears}
+use Rattle.own_heap.proofs.Clearing.{clears_nothing, clears, fields_cleared}
 use Rattle.own_heap.proofs.records.Records.clear.Goals as goal
 
 pub returns-in-Some-clause-objects : goal.returns-in-Some-clause-objects
@@ -11,3 +11,8 @@ pub returns-in_default-clause-objects : goal.returns-in_default-clause-objects
 returns-in_default-clause-objects c =
     let slots = c.args.self.now.slots.items in
     clears_nothing slots c.args.word (nowhere slots (start_of c.args.word) (sym c.in_default.ensures))
+
+pub returns-in-Some-clause-fields : goal.returns-in-Some-clause-fields
+returns-in-Some-clause-fields c =
+    let slots = c.args.self.now.slots.items in
+    subst (AreFieldsKept slots) (sym c.set.ensures) (fields_cleared slots c.in-Some.place (c.args.word % 4))

@@ -2,21 +2,21 @@ use Rattle.std.proofs.Common.{◌∙◌, ℕ, length, refl, sym, subst, inl, IsT
 use Rattle.fz_model.specs.State.{Map, Object}
 use Rattle.fz_pass.specs.Marks.{IsClosed}
 use Rattle.std.specs.FinSet.{contains}
-use Rattle.fz_pass.specs.Flagged.{DecidesFlagged}
+use Rattle.fz_pass.specs.Whole.{DecidesWhole}
 use Rattle.fz_finalizers.specs.declared.roots.Root.TheVariants.{HeldObject, HeldData, RegisteredData}
 use Rattle.std.specs.FinMap.{retain_keys}
 use Rattle.fz_model.specs.declared.kinds.LinkKind.TheVariants.{Short, Long}
 use Rattle.fz_finalizers.specs.Cleanups.{is_due}
 use Rattle.fz_finalizers.specs.Follows.{next_pass}
-use Rattle.fz_finalizers.specs.Passed.{PassesFor, parts_in}
+use Rattle.fz_finalizers.specs.Passed.{PassesWhole, parts_in}
 use Rattle.own_heap.specs.declared.records.Records.{Records}
 use Rattle.own_heap.specs.Outside.{place_of_link}
-use Rattle.own_heap.specs.Records.{objects_of}
+use Rattle.own_heap.specs.Records.{objects_of, value_of}
 use Rattle.own_heap.specs.Marking.{is_marked}
 use Rattle.own_heap.specs.Sound.{IsSound}
 use Rattle.own_heap.specs.Collected.{MarksKept}
 use Rattle.own_heap.proofs.Collected.{zero_nowhere}
-use Rattle.own_heap.proofs.Keeping.{cleans_back, cleans_sound, passed_registered, passed_short, passed_long, passed_held}
+use Rattle.own_heap.proofs.Keeping.{cleans_back, cleans_sound, passed_registered, passed_short, passed_long, passed_short_keys, passed_long_keys, passed_held}
 use Rattle.own_heap.proofs.Holding.{held_found}
 use Rattle.own_heap.proofs.runtime.Runtime.collect.Goals as goal
 
@@ -32,11 +32,11 @@ pub mark_kept-requires-3 : goal.mark_kept-requires-3
 mark_kept-requires-3 c =
     subst (λ (r : Records). IsClosed (objects_of r.slots.items) (is_marked c.mark_kept-2.new.heap.marks)) (sym c.mark_kept-2.ensures.rest.0) c.mark_kept-2.ensures.marked.marked.closed
 
-pub pass-passed-requires-clause-zero : goal.pass-passed-requires-clause-zero
-pass-passed-requires-clause-zero c = zero_nowhere c.mark_kept-3.new.heap.records.slots.items
+pub pass_with_ephemerons-passed-requires-clause-zero : goal.pass_with_ephemerons-passed-requires-clause-zero
+pass_with_ephemerons-passed-requires-clause-zero c = zero_nowhere c.mark_kept-3.new.heap.records.slots.items
 
-pub pass-passed-requires-clause-closed : goal.pass-passed-requires-clause-closed
-pass-passed-requires-clause-closed c =
+pub pass_with_ephemerons-passed-requires-clause-closed : goal.pass_with_ephemerons-passed-requires-clause-closed
+pass_with_ephemerons-passed-requires-clause-closed c =
     subst (λ (r : Records). IsClosed (objects_of r.slots.items) (is_marked c.mark_kept-3.new.heap.marks)) (sym c.mark_kept-3.ensures.rest.0) c.mark_kept-3.ensures.marked.marked.closed
 
 pub invariant_of-self : goal.invariant_of-self
@@ -51,18 +51,22 @@ invariant_of-self c =
     let last = c.mark_kept-3.ensures.rest.0 ∙ third in
     let by_objects = subst (λ (r : Records). MarksKept (objects_of r.slots.items) HeldObject state (is_marked c.mark_roots.new.self.marks) (is_marked c.mark_kept.new.heap.marks)) first c.mark_kept.ensures.marked in
     let still = λ (a : ℕ) (h : IsTrue (is_marked c.mark_kept.new.heap.marks a)). c.mark_kept-3.ensures.marked.marked.least a (inl (c.mark_kept-2.ensures.marked.marked.least a (inl h))) in
-    let host = c.pass-passed.new.host in
+    let host = c.pass_with_ephemerons-passed.new.host in
     let left = retain_keys (objects_of host.records.slots.items) (is_marked host.marks) in
-    let found = is_marked c.mark_kept-3.new.heap.marks in
-    let new = c.pass-passed.new.self.state in
-    let p = subst (λ (r : Records). PassesFor (Unit {0}) place_of_link state (objects_of r.slots.items) found new (objects_of host.records.slots.items) (is_marked host.marks)) last c.pass-passed.ensures.passes in
+    let traced = is_marked c.mark_kept-3.new.heap.marks in
+    let new = c.pass_with_ephemerons-passed.new.self.state in
+    let whole = subst (λ (r : Records). PassesWhole (Unit {0}) place_of_link value_of state (objects_of r.slots.items) traced new (objects_of host.records.slots.items) (is_marked host.marks)) last c.pass_with_ephemerons-passed.ensures.passes in
+    let found = whole.0 in
+    let p = whole.2 in
     let begun = cleans_sound objects (next_pass state.passes) (is_due Short found) state p.begun p.short old.sound in
     let queues = p.follows.0 in
     let passed : IsSound left p.passed = record {
-      registered = passed_registered _ _ _ _ _ _ _ _ _ _ p.decided begun.registered;
-      short = passed_short _ _ _ _ _ _ _ _ _ _ p.decided begun.short;
-      long = passed_long _ _ _ _ _ _ _ _ _ _ p.decided begun.long;
-      held = passed_held _ _ _ _ _ _ _ _ _ _ p.decided p.begun p.passed refl refl queues.taken queues.held (λ e here some. (still e.obj (held_found slots state old.sound _ _ by_objects e (cleans_back objects (next_pass state.passes) (is_due Short found) state p.begun p.short e here some) some), begun.held e here some));
+      registered = passed_registered _ _ _ _ _ _ _ _ _ _ _ _ _ p.decided begun.registered;
+      short = passed_short _ _ _ _ _ _ _ _ _ _ _ _ _ p.decided begun.short;
+      long = passed_long _ _ _ _ _ _ _ _ _ _ _ _ _ p.decided begun.long;
+      short_keys = passed_short_keys _ _ _ _ _ _ _ _ _ _ _ _ _ p.decided begun.short_keys;
+      long_keys = passed_long_keys _ _ _ _ _ _ _ _ _ _ _ _ _ p.decided begun.long_keys;
+      held = passed_held _ _ _ _ _ _ _ _ _ _ _ _ _ p.decided p.begun p.passed refl refl queues.taken queues.held (λ e here some. (whole.1.more e.obj (still e.obj (held_found slots state old.sound _ _ by_objects e (cleans_back objects (next_pass state.passes) (is_due Short found) state p.begun p.short e here some) some)), begun.held e here some));
     } in
     record {
       sound = subst (λ m. IsSound m new) (sym c.sweep.ensures.objects) (cleans_sound left (next_pass state.passes) (is_due Long (is_marked host.marks)) p.passed new p.long passed);
@@ -72,28 +76,35 @@ pub returns-clause-collected : goal.returns-clause-collected
 returns-clause-collected c =
     let old = c.args.self.now in
     let state = old.finalizers.state in
-    let new = c.pass-passed.new.self in
+    let new = c.pass_with_ephemerons-passed.new.self in
     let first = c.mark_roots.ensures.rest.0 in
     let second = c.mark_kept.ensures.rest.0 ∙ first in
     let third = c.mark_kept-2.ensures.rest.0 ∙ second in
     let last = c.mark_kept-3.ensures.rest.0 ∙ third in
-    let host = c.pass-passed.new.host in
-    let found = is_marked c.mark_kept-3.new.heap.marks in
-    let p = subst (λ (r : Records). PassesFor (Unit {0}) place_of_link state (objects_of r.slots.items) found new.state (objects_of host.records.slots.items) (is_marked host.marks)) last c.pass-passed.ensures.passes in
+    let host = c.pass_with_ephemerons-passed.new.host in
+    let traced = is_marked c.mark_kept-3.new.heap.marks in
+    let whole = subst (λ (r : Records). PassesWhole (Unit {0}) place_of_link value_of state (objects_of r.slots.items) traced new.state (objects_of host.records.slots.items) (is_marked host.marks)) last c.pass_with_ephemerons-passed.ensures.passes in
+    let p = whole.2 in
     record {
-      rooted = is_marked c.mark_roots.new.self.marks;
-      held = is_marked c.mark_kept.new.heap.marks;
-      handed = is_marked c.mark_kept-2.new.heap.marks;
-      found = is_marked c.mark_kept-3.new.heap.marks;
-      by_roots = c.mark_roots.ensures.marked;
-      by_objects = subst (λ (r : Records). MarksKept (objects_of r.slots.items) HeldObject state (is_marked c.mark_roots.new.self.marks) (is_marked c.mark_kept.new.heap.marks)) first c.mark_kept.ensures.marked;
-      by_data = subst (λ (r : Records). MarksKept (objects_of r.slots.items) HeldData state (is_marked c.mark_kept.new.heap.marks) (is_marked c.mark_kept-2.new.heap.marks)) second c.mark_kept-2.ensures.marked;
-      by_registered = subst (λ (r : Records). MarksKept (objects_of r.slots.items) RegisteredData state (is_marked c.mark_kept-2.new.heap.marks) (is_marked c.mark_kept-3.new.heap.marks)) third c.mark_kept-3.ensures.marked;
+      traced = traced;
+      found = whole.0;
+      marks = record {
+        rooted = is_marked c.mark_roots.new.self.marks;
+        held = is_marked c.mark_kept.new.heap.marks;
+        handed = is_marked c.mark_kept-2.new.heap.marks;
+        by_roots = c.mark_roots.ensures.marked;
+        by_objects = subst (λ (r : Records). MarksKept (objects_of r.slots.items) HeldObject state (is_marked c.mark_roots.new.self.marks) (is_marked c.mark_kept.new.heap.marks)) first c.mark_kept.ensures.marked;
+        by_data = subst (λ (r : Records). MarksKept (objects_of r.slots.items) HeldData state (is_marked c.mark_kept.new.heap.marks) (is_marked c.mark_kept-2.new.heap.marks)) second c.mark_kept-2.ensures.marked;
+        by_registered = subst (λ (r : Records). MarksKept (objects_of r.slots.items) RegisteredData state (is_marked c.mark_kept-2.new.heap.marks) traced) third c.mark_kept-3.ensures.marked;
+      };
+      settles = whole.1;
       begun = p.begun;
       passed = p.passed;
       marked = is_marked host.marks;
       short = p.short;
-      decided = subst (λ (left : Map Object). DecidesFlagged (Unit {0}) place_of_link (contains p.begun.late) (next_pass state.passes) (length p.begun.queue) (parts_in (objects_of old.heap.records.slots.items) p.begun) found (parts_in left p.passed) p.begun.queue p.passed.queue)
+      decided = subst
+          (λ (left : Map Object). DecidesWhole (Unit {0}) place_of_link value_of (contains p.begun.late) (next_pass state.passes) (length p.begun.queue) (parts_in (objects_of old.heap.records.slots.items) p.begun) p.begun.ephemerons whole.0
+          (parts_in left p.passed) p.passed.ephemerons p.begun.queue p.passed.queue)
           (sym c.sweep.ensures.objects) p.decided;
       follows = p.follows;
       long = p.long;
