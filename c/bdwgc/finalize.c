@@ -15,6 +15,7 @@
 #ifndef GC_NO_FINALIZATION
 #include "derrimas_finalizers.h"
 #include "gc_cleanup.h"
+#include "gc_ephemeron.h"
 #include "javaxfc.h"
 #include <string.h>
 #include <sys/mman.h>
@@ -368,11 +369,14 @@ GC_API int GC_CALL GC_cancel_cleanup(unsigned long long number)
     return old.was;
 }
 
-/* ---- links */
+/* ---- links, and ephemerons, of which gc.h has none */
 
 static GC_bool is_word(void *link) { return ((word)link & (ALIGNMENT - 1)) == 0; }
 
-static int make_link(derrimas_finalizers_link_kind kind, void **link, const void *target)
+typedef derrimas_finalizers_code making(derrimas_finalizers *, derrimas_finalizers_link_kind, uint64_t word, uint64_t target, derrimas_finalizers_linked *);
+
+/* Makes a link of a word, or an ephemeron, whose target is its key. */
+static int make(making *how, derrimas_finalizers_link_kind kind, void **link, const void *target)
 {
     const uint64_t place = HIDE(link), hidden = HIDE(target);
     derrimas_finalizers_linked answer = DERRIMAS_FINALIZERS_LINKED;
@@ -385,14 +389,16 @@ static int make_link(derrimas_finalizers_link_kind kind, void **link, const void
         return GC_UNIMPLEMENTED;
     LOCK();
     GC_ASSERT(target != NULL && GC_base_C(target) == target);
-    done = is_open() && derrimas_finalizers_link(&finalizers, kind, place, hidden, &answer) == DERRIMAS_FINALIZERS_OK;
+    done = is_open() && how(&finalizers, kind, place, hidden, &answer) == DERRIMAS_FINALIZERS_OK;
     if (!done && found_memory(sizeof(derrimas_finalizers_link_at)))
-        done = is_open() && derrimas_finalizers_link(&finalizers, kind, place, hidden, &answer) == DERRIMAS_FINALIZERS_OK;
+        done = is_open() && how(&finalizers, kind, place, hidden, &answer) == DERRIMAS_FINALIZERS_OK;
     GC_reachable_here(link);
     GC_reachable_here(target);
     UNLOCK();
     return done ? DERRIMAS_FINALIZERS_GC_ANSWER(answer) : GC_NO_MEMORY;
 }
+
+static int make_link(derrimas_finalizers_link_kind kind, void **link, const void *target) { return make(derrimas_finalizers_link, kind, link, target); }
 
 static int remove_link(derrimas_finalizers_link_kind kind, void **link)
 {
@@ -437,6 +443,40 @@ GC_API int GC_CALL GC_move_disappearing_link(void **link, void **to) { return mo
 GC_API int GC_CALL GC_register_long_link(void **link, const void *target) { return make_link(DERRIMAS_FINALIZERS_LONG, link, target); }
 GC_API int GC_CALL GC_unregister_long_link(void **link) { return remove_link(DERRIMAS_FINALIZERS_LONG, link); }
 GC_API int GC_CALL GC_move_long_link(void **link, void **to) { return move_link(DERRIMAS_FINALIZERS_LONG, link, to); }
+
+GC_API int GC_CALL GC_register_ephemeron(void **value, const void *key)
+{
+    return make(derrimas_finalizers_ephemeron, DERRIMAS_FINALIZERS_SHORT, value, key);
+}
+
+GC_API int GC_CALL GC_register_long_ephemeron(void **value, const void *key)
+{
+    return make(derrimas_finalizers_ephemeron, DERRIMAS_FINALIZERS_LONG, value, key);
+}
+
+GC_API int GC_CALL GC_unregister_ephemeron(void **value)
+{
+    bool was = false;
+    DCL_LOCK_STATE;
+
+    LOCK();
+    (void)derrimas_finalizers_end_ephemeron(&finalizers, HIDE(value), &was);
+    UNLOCK();
+    return was;
+}
+
+GC_API int GC_CALL GC_move_ephemeron(void **value, void **to)
+{
+    derrimas_finalizers_linked answer = DERRIMAS_FINALIZERS_NOT_FOUND;
+    DCL_LOCK_STATE;
+
+    if (!is_word(to) || !NONNULL_ARG_NOT_NULL(to))
+        ABORT("An ephemeron moved to no word");
+    LOCK();
+    (void)derrimas_finalizers_move_ephemeron(&finalizers, HIDE(value), HIDE(to), &answer);
+    UNLOCK();
+    return DERRIMAS_FINALIZERS_GC_ANSWER(answer);
+}
 
 /* ---- roots */
 
@@ -611,12 +651,17 @@ GC_INLINE bool mark_words(struct lookup *last, ptr_t object, void (*words)(ptr_t
 GC_INLINE bool mark_children(struct lookup *last, ptr_t object) { return mark_words(last, object, GC_normal_finalize_mark_proc); }
 GC_INLINE bool mark_others(struct lookup *last, ptr_t object) { return mark_words(last, object, GC_ignore_self_finalize_mark_proc); }
 
+/* Sets the mark of an object, which was looked up last and has none. */
+GC_INLINE void set_mark(struct lookup *last, ptr_t object)
+{
+    set_mark_bit_from_hdr(last->header, bit_of(last, object));
+    INCR_MARKS(last->header);
+}
+
 GC_INLINE bool mark_alone(struct lookup *last, ptr_t object)
 {
-    if (!is_marked(last, object)) {
-        set_mark_bit_from_hdr(last->header, bit_of(last, object));
-        INCR_MARKS(last->header);
-    }
+    if (!is_marked(last, object))
+        set_mark(last, object);
     GC_bytes_finalized += last->header->hb_sz;
     if (EXPECT(GC_object_finalized_proc != 0, FALSE))
         GC_object_finalized_proc(object);
@@ -629,6 +674,18 @@ GC_INLINE bool mark(struct lookup *last, ptr_t object)
     if (GC_java_finalization && !is_marked(last, object))
         GC_MARK_FO(object, GC_normal_finalize_mark_proc);
     return mark_alone(last, object);
+}
+
+/* What a word points to, which bdwgc doesn't scan with the word's object. */
+GC_INLINE bool mark_value(struct lookup *last, ptr_t link)
+{
+    ptr_t value = pointed(*(word *)(void *)link);
+
+    if (value == NULL || is_marked(last, value))
+        return false;
+    set_mark(last, value);
+    GC_MARK_FO(value, GC_normal_finalize_mark_proc);
+    return true;
 }
 
 GC_INLINE bool clear(struct lookup *last, ptr_t link)
@@ -719,6 +776,8 @@ static uint64_t answers_to(derrimas_question *question)
     case DERRIMAS_ASK_MARKS:
         answer_marks(question);
         return 0;
+    case DERRIMAS_ASK_MARK_VALUE:
+        return each(question, mark_value);
     }
     return 0;
 }

@@ -125,7 +125,7 @@ def replaced(room, name, original, archive):
     shutil.rmtree(tree, ignore_errors=True)
     must(['cp', '-a', original, tree])
     os.rename(f'{tree}/finalize.c', f'{tree}/finalize_package.c')
-    for file in ('finalize.c', 'gc_cleanup.h'):
+    for file in ('finalize.c', 'gc_cleanup.h', 'gc_ephemeron.h'):
         shutil.copy(f'{HERE}/{file}', tree)
     libraries = [f'LIBS={archive} -lpthread -ldl'] if os.path.exists(f'{original}/.libs/libgc.so') else []
     must(['make', 'libgc.la', f'CPPFLAGS={header(archive)}', *libraries], cwd=tree)

@@ -1,18 +1,18 @@
 /* derrimas_finalizers.h: finalizers and disappearing links for a runtime that has a heap of its own, for C99 and later,
  * and C++17 and later.
  *
- * A derrimas_finalizers holds registrations of objects, short and long disappearing links, cleanups of objects, and the
- * entries of finalizers and cleanups that are ready. Objects, words, procedures and client data are numbers of 64 bits,
+ * A derrimas_finalizers holds registrations of objects, short and long disappearing links, ephemerons, cleanups of objects,
+ * and the entries of finalizers and cleanups that are ready. Objects, words, procedures and client data are numbers of 64 bits,
  * which are compared and returned, and never dereferenced. An object is any number but 0 by which the host finds it: its
  * address, an address that is hidden by a map that keeps the order, or an index. What is proved of a pass assumes that an
- * object with n words takes the n numbers from its own on, and that no two objects share one. A link's word is any number
- * but 0 by which the host finds it, and has one number: its address, or an object's number and an offset. A host whose
- * marker scans the stack for what looks like an address hides all of these by the same map, since questions and entries
- * are on the stack.
+ * object with n words takes the n numbers from its own on, and that no two objects share one. The word of a link or of an
+ * ephemeron is any number but 0 by which the host finds it, and has one number: its address, or an object's number and an
+ * offset. A host whose marker scans the stack for what looks like an address hides all of these by the same map, since
+ * questions and entries are on the stack.
  *
  * The host has the heap. It marks what its roots reach, and what derrimas_finalizers_roots yields. Then it makes a pass,
  * in which it is asked questions: is this object marked, mark what it reaches, write zero to this word. What isn't marked
- * at the end of the pass may be reclaimed.
+ * at the end of the pass may be reclaimed. The host never marks through the word of an ephemeron, but when it is asked to.
  *
  * A call that can be refused returns a derrimas_finalizers_code. A refused call changes nothing, and leaves the places for
  * its results as they were. If several causes apply, it returns the first in the order of the call's comment.
@@ -26,27 +26,30 @@
  *   derrimas_finalizers_has_waiting alone may be called at any time.
  * - A signal handler calls derrimas_finalizers_has_waiting alone. A forked child has a copy of each handle: it may use one
  *   if no other thread was in a call on it at the fork, for example if the fork happens under the host's lock.
- * - Before the host frees, reuses or moves the memory of a link's word, it unlinks or moves the link. A pass has the host
- *   write to the word of each link that it clears, even if no object has the word. A pass that ends has removed the links
- *   whose words lie in objects that it left unmarked: these may be freed without further calls.
+ * - Before the host frees, reuses or moves the memory of the word of a link or an ephemeron, it unlinks or moves the link,
+ *   or ends or moves the ephemeron. A pass has the host write to the word of each one that it clears, even if no object has
+ *   the word. A pass that ends has removed those whose words lie in objects that it left unmarked: these may be freed
+ *   without further calls.
  * - Before the host reclaims an object at any other time than after a pass that left it unmarked, it removes the object's
- *   registration, the links to it and its cleanups: a pass asks whether the object is marked, and a new object of the same
- *   number would inherit them. A pass that ends leaves none of these of an object that it left unmarked.
+ *   registration, the links to it, the ephemerons whose key it is and its cleanups: a pass asks whether the object is
+ *   marked, and a new object of the same number would inherit them. A pass that ends leaves none of these of an object that
+ *   it left unmarked.
  *
- * Only derrimas_finalizers_open, .._reserve, .._shrink, .._register, .._link, .._add_cleanup, .._why and .._stuck allocate,
- * by the handle's allocator; only these and .._destroy free. All other calls may be made while other threads are stopped at any
- * place. .._reserve allocates beforehand, except for cleanups. A registration that replaces another takes no room, even if
- * its kind differs. Each new registration and each cleanup takes room for its entry, so that a pass, a take and a move of
- * a link never need memory; so a cleanup uses up the room that was reserved for one registration. If the list that a pass
- * processes has no room left, .._register, .._link and .._add_cleanup enlarge it, even if they replace something or are
- * refused. With the option `marks` .._register may also allocate for the object's region, even if room is reserved; if
- * that fails the call is accepted nevertheless, and later passes ask about each object, until .._shrink finds memory for
- * the regions.
+ * Only derrimas_finalizers_open, .._reserve, .._shrink, .._register, .._link, .._ephemeron, .._add_cleanup, .._why and
+ * .._stuck allocate, by the handle's allocator; only these and .._destroy free. All other calls may be made while other
+ * threads are stopped at any place. .._reserve allocates beforehand, except for ephemerons and cleanups. A registration
+ * that replaces another takes no room, even if its kind differs. Each new registration and each cleanup takes room for
+ * its entry, and each ephemeron for a pass, so that a pass, a take and a move never need memory; so a cleanup uses up the
+ * room that was reserved for one registration. If the list that a pass processes has no room left, .._register, .._link,
+ * .._ephemeron and .._add_cleanup enlarge it, even if they replace something or are refused. With the option `marks`
+ * .._register may also allocate for the object's region, even if room is reserved; if that fails the call is accepted
+ * nevertheless, and later passes ask about each object, until .._shrink finds memory for the regions.
  *
  * A call uses at most 16 KB of the stack, besides what the host's functions use.
  *
- * Unless a comment says otherwise a call takes constant time: .._register, .._link and .._add_cleanup amortized over the
- * growth of tables, .._move_link over as many moves as there are links of its kind. */
+ * Unless a comment says otherwise a call takes constant time: .._register, .._link, .._ephemeron and .._add_cleanup
+ * amortized over the growth of tables, .._move_link over as many moves as there are links of its kind, .._move_ephemeron
+ * over as many as there are ephemerons. */
 #ifndef DERRIMAS_FINALIZERS_H
 #define DERRIMAS_FINALIZERS_H
 
@@ -63,7 +66,7 @@ typedef enum derrimas_finalizers_code {
     DERRIMAS_FINALIZERS_OK = 0,           /* the call was accepted */
     DERRIMAS_FINALIZERS_ZERO = 1,         /* the object or the word is 0 */
     DERRIMAS_FINALIZERS_EXHAUSTED = 2,    /* 2^48 registrations and cleanups have been numbered */
-    DERRIMAS_FINALIZERS_FULL = 3,         /* there are 2^32 registrations, cleanups, or links of this kind */
+    DERRIMAS_FINALIZERS_FULL = 3,         /* there are 2^32 registrations, cleanups, or links or ephemerons of this kind */
     DERRIMAS_FINALIZERS_NO_MEMORY = 4,    /* the handle's allocator returned NULL */
     DERRIMAS_FINALIZERS_NOT_HELD = 5,     /* no entry that is held is the same in all fields */
     DERRIMAS_FINALIZERS_PASS_OPEN = 6,    /* a pass is open: .._begin came, and its last question didn't */
@@ -91,8 +94,9 @@ typedef enum derrimas_finalizers_kind {
     DERRIMAS_FINALIZERS_UNREACHABLE = 3  /* as NORMAL, but the references of NO_ORDER objects count too */
 } derrimas_finalizers_kind;
 
-/* The kinds of links and the answers about them, which are those of derrimas_common.h, by names of this header. A cleanup
- * is due when a link of this kind to its object is cleared. */
+/* The kinds of links and the answers about them, which are those of derrimas_common.h, by names of this header. An ephemeron
+ * of a kind is cleared when a link of this kind to its key is. A cleanup is due when a link of this kind to its object is
+ * cleared. */
 typedef derrimas_links derrimas_finalizers_link_kind;
 typedef derrimas_links derrimas_finalizers_when;
 typedef derrimas_link_answer derrimas_finalizers_linked;
@@ -125,7 +129,8 @@ typedef struct derrimas_finalizers_entry derrimas_finalizers_entry;
 typedef struct derrimas_trace {
     void (*queued)(void *data, uint64_t pass, uint64_t count); /* a pass has queued entries; or as pass 0 .._queue_all or
                                                                 * .._queue_cleanups has */
-    void (*cleared)(void *data, uint64_t word);                /* a question asks the host to write zero to a link's word */
+    void (*cleared)(void *data, uint64_t word);                /* a question asks the host to write zero to the word of a
+                                                                * link or an ephemeron */
     void (*finished)(void *data, const derrimas_finalizers_entry *entry); /* by .._finish, or taken as finished */
     void *data;
 } derrimas_trace;
@@ -168,7 +173,7 @@ typedef struct derrimas_finalizers_registration_at {
     uint8_t rank;
 } derrimas_finalizers_registration_at;
 
-/* A link: its word and its target. */
+/* A link: its word and its target; or an ephemeron: its word and its key, as the target. */
 typedef struct derrimas_finalizers_link_at {
     uint64_t word, target;
 } derrimas_finalizers_link_at;
@@ -180,10 +185,10 @@ typedef struct derrimas_finalizers_cleanup_at {
     uint8_t rank;
 } derrimas_finalizers_cleanup_at;
 
-/* How many registrations, links, cleanups, entries that wait and entries that are held there are; how many entries and
- * passes there ever were. */
+/* How many registrations, links, ephemerons, cleanups, entries that wait and entries that are held there are; how many
+ * entries and passes there ever were. */
 typedef struct derrimas_finalizers_counts {
-    uint64_t registrations, short_links, long_links, cleanups, waiting, held, queued, passes;
+    uint64_t registrations, short_links, long_links, short_ephemerons, long_ephemerons, cleanups, waiting, held, queued, passes;
 } derrimas_finalizers_counts;
 
 /* What a pass did: its number, from 1 on, and how many entries it queued. */
@@ -198,16 +203,19 @@ typedef enum derrimas_ask {
     DERRIMAS_ASK_MARK_OTHERS = 3,      /* the same, but without the words that point to the object itself */
     DERRIMAS_ASK_MARK = 4,             /* mark the object and all that it reaches: it has an entry from now on */
     DERRIMAS_ASK_MARK_ALONE = 5,       /* mark the object; all else that it reaches is marked already: it has an entry */
-    DERRIMAS_ASK_CLEAR = 6,            /* write zero to the word; its link is removed */
-    DERRIMAS_ASK_HOLDER_IS_MARKED = 7, /* is the object that has the word marked, or has no object the word? if not, its
-                                        * link is removed, and the word stays as it is */
-    DERRIMAS_ASK_MARKS = 8             /* which objects are marked that begin in the region? only with the option `marks` */
+    DERRIMAS_ASK_CLEAR = 6,            /* write zero to the word; its link or ephemeron is removed */
+    DERRIMAS_ASK_HOLDER_IS_MARKED = 7, /* is the object that has the word marked, or has no object the word? at the end of
+                                        * a pass, if not, its link or ephemeron is removed, and the word stays as it is */
+    DERRIMAS_ASK_MARKS = 8,            /* which objects are marked that begin in the region? only with the option `marks` */
+    DERRIMAS_ASK_MARK_VALUE = 10       /* mark the object to which the ephemeron's word points, if any, and all that it
+                                        * reaches: may something have been marked that wasn't? only if there are ephemerons;
+                                        * 9 is no question */
 } derrimas_ask;
 
 /* A question about `count` objects, words or regions, 1 to DERRIMAS_FINALIZERS_BATCH, to be answered or carried out one
- * after another; the places after them are undefined. For IS_MARKED and HOLDER_IS_MARKED bit i of the answers, counted
- * from the lowest, is the answer about what[i]. For the others the answers are ignored. MARKS alone is answered in
- * `marks`, which nothing else reads or writes. what[j] is where a region begins, which has 64 places, 16 apart. Bit i of
+ * after another; the places after them are undefined. For IS_MARKED, HOLDER_IS_MARKED and MARK_VALUE bit i of the answers,
+ * counted from the lowest, is the answer about what[i]. To say 1 of MARK_VALUE is always right; 0 says that all was marked
+ * before. For the others the answers are ignored. MARKS alone is answered in `marks`, which nothing else reads or writes. what[j] is where a region begins, which has 64 places, 16 apart. Bit i of
  * marks[j] says whether the object that begins at what[j] + 16 * i is marked. If none begins at a place, its bit may have
  * any value. For a region whose memory is freed give 0. An object that begins off the multiples of 16 is in a region that
  * does so too, so what[j] need be no object and no multiple of 16, and may be 0. */
@@ -231,23 +239,23 @@ DERRIMAS_CHECKED derrimas_finalizers_code derrimas_finalizers_open(derrimas_fina
 /* Frees all that the handle has, by its allocator, and leaves it as {0}. Does nothing if it isn't open. */
 void derrimas_finalizers_destroy(derrimas_finalizers *finalizers) DERRIMAS_NONNULL(1);
 
-/* Makes room for the given numbers of further registrations and links: until the room is used up no call but
- * .._add_cleanup takes memory, and with the option `marks` .._register for a new region. It takes memory itself, and time
- * proportional to the room.
+/* Makes room for the given numbers of further registrations and links: until the room is used up no calls but
+ * .._ephemeron and .._add_cleanup take memory, and with the option `marks` .._register for a new region. It takes memory
+ * itself, and time proportional to the room.
  * Refused: NOT_OPEN, PASS_OPEN, NO_MEMORY. */
 DERRIMAS_CHECKED derrimas_finalizers_code derrimas_finalizers_reserve(derrimas_finalizers *finalizers,
                                                                       uint64_t registrations, uint64_t shorts, uint64_t longs)
     DERRIMAS_NONNULL(1);
 
-/* Frees the memory that registrations, links, cleanups and unfinished entries don't need, reserved room included. If the
- * allocator has no memory for a smaller table, the old one stays. No other call but .._destroy does this. With the option
- * `marks` it notes the registered objects again, if there is memory for their regions: the regions of removed registrations
- * are forgotten, and passes ask by regions again if memory for one had been lacking. Takes time proportional to what there
- * is.
+/* Frees the memory that registrations, links, ephemerons, cleanups and unfinished entries don't need, reserved room
+ * included. If the allocator has no memory for a smaller table, the old one stays. No other call but .._destroy does
+ * this. With the option `marks` it notes the registered objects again, if there is memory for their regions: the regions
+ * of removed registrations are forgotten, and passes ask by regions again if memory for one had been lacking. Takes time
+ * proportional to what there is.
  * Refused: NOT_OPEN, PASS_OPEN. */
 derrimas_finalizers_code derrimas_finalizers_shrink(derrimas_finalizers *finalizers) DERRIMAS_NONNULL(1);
 
-/* ---- registrations, links and cleanups */
+/* ---- registrations, links, ephemerons and cleanups */
 
 /* Registers a finalizer of the object, and replaces the one that it has, of any kind. An object has one: for several, let
  * the client data be a list that the procedure processes. `proc` and `cd` are any numbers, which the entry has too. Of the
@@ -288,6 +296,32 @@ derrimas_finalizers_code derrimas_finalizers_move_link(derrimas_finalizers *fina
                                                        uint64_t word, uint64_t to, derrimas_finalizers_linked *answer)
     DERRIMAS_NONNULL(1);
 
+/* Makes the word an ephemeron of the key, in the place of the one that it may be. What the word points to is its value. The
+ * host doesn't mark the value when it marks the object that has the word. A pass has it marked where that object and the key
+ * are marked, or the key alone if no object has the word. So the word retains its value only as long as its object and the
+ * key are retained, and a value that reaches its key doesn't retain it. If the word was an ephemeron, of either kind,
+ * *answer is DUPLICATE, otherwise LINKED; it may be NULL. The word may have links, too. A pass clears the word and removes
+ * the ephemeron when the key is lost: for a SHORT one unmarked when the pass begins, once the values have been marked, for a
+ * LONG one also not retained for a finalizer. If the object that has the word is left unmarked, the pass removes the
+ * ephemeron and leaves the word as it is. An ephemeron that is new or changes its kind may take memory.
+ * Refused: BAD_KIND, NOT_OPEN, PASS_OPEN, ZERO, FULL, NO_MEMORY. */
+DERRIMAS_CHECKED derrimas_finalizers_code
+derrimas_finalizers_ephemeron(derrimas_finalizers *finalizers, derrimas_finalizers_link_kind kind, uint64_t word, uint64_t key,
+                              derrimas_finalizers_linked *answer) DERRIMAS_NONNULL(1);
+
+/* Ends the ephemeron of the word, which is a word like any other then; *was, which may be NULL, says whether there was one.
+ * Refused: NOT_OPEN, PASS_OPEN. */
+derrimas_finalizers_code derrimas_finalizers_end_ephemeron(derrimas_finalizers *finalizers, uint64_t word, bool *was)
+    DERRIMAS_NONNULL(1);
+
+/* Moves the ephemeron from the word to the word `to`; its kind and its key stay the same. *answer, which may be NULL, is
+ * LINKED, also if both are the same; or NOT_FOUND, or DUPLICATE if `to` is an ephemeron of either kind, and then nothing
+ * changed. It takes no memory. A single move may rebuild the table, in the memory that it has, which takes time proportional
+ * to the ephemerons.
+ * Refused: NOT_OPEN, PASS_OPEN, ZERO (of `to`). */
+derrimas_finalizers_code derrimas_finalizers_move_ephemeron(derrimas_finalizers *finalizers, uint64_t word, uint64_t to,
+                                                            derrimas_finalizers_linked *answer) DERRIMAS_NONNULL(1);
+
 /* Adds a cleanup to the object, which may have any number of them, registered or not. When the object is lost, an entry
  * without it is queued: its obj is 0, and its reg is *number, which no other cleanup and no registration has, and which
  * may be NULL. So the object isn't retained, and may be reclaimed after the same pass. A SHORT cleanup is due in a pass
@@ -319,15 +353,17 @@ derrimas_finalizers_code derrimas_finalizers_begin(derrimas_finalizers *finalize
  * *passed, which may be NULL. A pass takes time proportional to the registrations, the links and the cleanups, and sorts
  * the unmarked objects and the cleanups; a single call may take as much when the pass goes on to another list. With the
  * option `marks` it takes time proportional to the regions of registered objects and to the unmarked objects, and not to
- * the registrations.
+ * the registrations. Four times it asks about each ephemeron, and then in rounds, as long as values are marked, about those
+ * that still wait for their keys or objects. A chain of n ephemerons, the value of each of which reaches the key of the next,
+ * takes n rounds: so n ephemerons take at most time proportional to the square of n.
  * Refused: NOT_OPEN, NO_PASS; EMPTY. */
 derrimas_finalizers_code derrimas_finalizers_next(derrimas_finalizers *finalizers, uint64_t answers,
                                                   derrimas_question *question, derrimas_finalizers_passed *passed)
     DERRIMAS_NONNULL(1, 3);
 
-/* Ends the open pass before its last question. What it has queued stays queued. A link whose CLEAR wasn't answered stays a
- * link, an object that wasn't queued stays registered, and a cleanup that wasn't queued stays. The host reclaims nothing
- * before its next pass has ended: what that would have retained may be unmarked.
+/* Ends the open pass before its last question. What it has queued stays queued. A link or an ephemeron whose CLEAR wasn't
+ * answered stays one, an object that wasn't queued stays registered, and a cleanup that wasn't queued stays. The host
+ * reclaims nothing before its next pass has ended: what that would have retained may be unmarked.
  * Refused: NOT_OPEN, NO_PASS. */
 derrimas_finalizers_code derrimas_finalizers_abandon(derrimas_finalizers *finalizers) DERRIMAS_NONNULL(1);
 
@@ -410,6 +446,11 @@ derrimas_finalizers_code derrimas_finalizers_target(const derrimas_finalizers *f
                                                     derrimas_finalizers_link_kind kind, uint64_t word, uint64_t *target)
     DERRIMAS_NONNULL(1, 4);
 
+/* The kind and the key of the word's ephemeron; `kind` may be NULL.
+ * Refused: NOT_OPEN; EMPTY if the word is none. */
+derrimas_finalizers_code derrimas_finalizers_key(const derrimas_finalizers *finalizers, uint64_t word,
+                                                 derrimas_finalizers_link_kind *kind, uint64_t *key) DERRIMAS_NONNULL(1, 4);
+
 /* The cleanup with this number.
  * Refused: NOT_OPEN; EMPTY if it was queued, cancelled or never added. */
 derrimas_finalizers_code derrimas_finalizers_cleanup(const derrimas_finalizers *finalizers, uint64_t number,
@@ -427,6 +468,13 @@ derrimas_finalizers_code derrimas_finalizers_registrations(const derrimas_finali
 derrimas_finalizers_code derrimas_finalizers_links(const derrimas_finalizers *finalizers, derrimas_finalizers_link_kind kind,
                                                    uint64_t *from, derrimas_finalizers_link_at *buffer, size_t room,
                                                    size_t *count) DERRIMAS_NONNULL(1, 3, 6);
+
+/* Copies ephemerons of a kind, as derrimas_finalizers_registrations copies registrations; their targets are the keys.
+ * Refused: BAD_KIND, NOT_OPEN; EMPTY if none is left, or `room` is 0. */
+derrimas_finalizers_code derrimas_finalizers_ephemerons(const derrimas_finalizers *finalizers,
+                                                        derrimas_finalizers_link_kind kind, uint64_t *from,
+                                                        derrimas_finalizers_link_at *buffer, size_t room, size_t *count)
+    DERRIMAS_NONNULL(1, 3, 6);
 
 /* Copies cleanups, as derrimas_finalizers_registrations copies registrations.
  * Refused: NOT_OPEN; EMPTY if none is left, or `room` is 0. */
@@ -488,7 +536,8 @@ typedef struct derrimas_paths {
  * gets the first objects of the path that is the evidence, as many as fit. The object may be any number; registered
  * objects and the targets of short links are the host's objects. It changes nothing. By the handle's allocator it takes
  * memory for each word of the objects that roots, registered objects and short links reach, and frees it again. It takes
- * time proportional to these words, registrations and links.
+ * time proportional to these words, registrations and links. Values of ephemerons don't count, unless `child` lists their
+ * words.
  * Refused: NOT_OPEN, PASS_OPEN; OVERLAP, NO_MEMORY, whichever comes first. */
 DERRIMAS_CHECKED derrimas_finalizers_code derrimas_finalizers_why(derrimas_finalizers *finalizers, uint64_t object,
                                                                   const derrimas_paths *paths, void *data, derrimas_why *why,
@@ -537,7 +586,9 @@ const char *derrimas_finalizers_reason_name(derrimas_why_reason reason);
  * does each bit of marks, about the object that begins at its place; the three marks add to the set what the questions
  * say, or more; nothing else changes the set in the pass; and at the beginning and after each mark the set has all that
  * its objects reach. With but_itself, mark_children passes over words that point to the object itself. marks returns the
- * word of the region that begins at `first`; it is NULL in a host that doesn't open with the option `marks`. */
+ * word of the region that begins at `first`; it is NULL in a host that doesn't open with the option `marks`. mark_value
+ * returns whether something may have been marked that wasn't; it is NULL in a host without ephemerons. Words of ephemerons
+ * aren't among the words by which an object reaches another. */
 typedef struct derrimas_host {
     bool (*is_marked)(void *data, uint64_t object);
     void (*mark_children)(void *data, uint64_t object, bool but_itself);
@@ -546,6 +597,7 @@ typedef struct derrimas_host {
     void (*clear)(void *data, uint64_t word);
     bool (*holder_is_marked)(void *data, uint64_t word);
     uint64_t (*marks)(void *data, uint64_t first);
+    bool (*mark_value)(void *data, uint64_t word);
 } derrimas_host;
 
 /* Answers a question by the host's procedures: MARKS in question->marks, the others by what is returned. */
@@ -566,14 +618,27 @@ static inline uint64_t derrimas_host_answers(const derrimas_host *host, void *da
         case DERRIMAS_ASK_CLEAR: host->clear(data, what); break;
         case DERRIMAS_ASK_HOLDER_IS_MARKED: answers |= (uint64_t)host->holder_is_marked(data, what) << i; break;
         case DERRIMAS_ASK_MARKS: question->marks[i] = host->marks(data, what); break;
+        case DERRIMAS_ASK_MARK_VALUE: answers |= (uint64_t)host->mark_value(data, what) << i; break;
         }
     }
     return answers;
 }
 
+/* Whether a host has the functions for all that a pass may ask. */
+static inline bool derrimas_host_is_whole(const derrimas_host *host, const derrimas_finalizers *finalizers)
+{
+    derrimas_finalizers_counts counts;
+
+    if (finalizers->asks_marks && !host->marks)
+        return false;
+    return host->mark_value || derrimas_finalizers_count(finalizers, &counts) != DERRIMAS_FINALIZERS_OK
+           || counts.short_ephemerons + counts.long_ephemerons == 0;
+}
+
 /* A whole pass, driven by the procedures of a host. They may make the calls that take a const handle, and must return.
  * *passed, which may be NULL, is what it did. BAD_OPTIONS: the handle was opened with the option `marks`, and the host has
- * no `marks`; is_marked can't be asked instead, since there may be no object at a place of a region.
+ * no `marks`; is_marked can't be asked instead, since there may be no object at a place of a region. Or there are
+ * ephemerons, and the host has no mark_value.
  * Refused: BAD_OPTIONS, NOT_OPEN, PASS_OPEN. */
 static inline derrimas_finalizers_code derrimas_finalizers_pass(derrimas_finalizers *finalizers, const derrimas_host *host,
                                                                 void *data, derrimas_finalizers_passed *passed)
@@ -582,7 +647,7 @@ static inline derrimas_finalizers_code derrimas_finalizers_pass(derrimas_finaliz
     uint64_t answers = 0;
     derrimas_finalizers_code code;
 
-    if (finalizers->asks_marks && !host->marks)
+    if (!derrimas_host_is_whole(host, finalizers))
         return DERRIMAS_FINALIZERS_BAD_OPTIONS;
     code = derrimas_finalizers_begin(finalizers);
     if (code != DERRIMAS_FINALIZERS_OK)

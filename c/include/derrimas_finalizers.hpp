@@ -48,7 +48,7 @@ public:
     using old = derrimas_finalizers_old;
     using entry = derrimas_finalizers_entry;
     using registration = derrimas_finalizers_registration_at;
-    using linked = derrimas_finalizers_link_at;
+    using linked = derrimas_finalizers_link_at; /* a link; or an ephemeron, whose key is the target */
     using cleanup = derrimas_finalizers_cleanup_at;
     using counts = derrimas_finalizers_counts;
     using passed = derrimas_finalizers_passed;
@@ -62,6 +62,12 @@ public:
     enum class why_root {
         host_root = DERRIMAS_WHY_HOST_ROOT, registered_data = DERRIMAS_WHY_REGISTERED_DATA, cleanup_data = DERRIMAS_WHY_CLEANUP_DATA,
         held_object = DERRIMAS_WHY_HELD_OBJECT, held_data = DERRIMAS_WHY_HELD_DATA
+    };
+
+    /* The ephemeron of a word: its kind and its key. */
+    struct keyed {
+        link_kind kind;
+        std::uint64_t key;
     };
 
     /* A new registration: its number, and what it replaced. */
@@ -147,6 +153,28 @@ public:
         return static_cast<link_answer>(answer);
     }
 
+    /* `duplicate` if the word was an ephemeron, of either kind. */
+    link_answer ephemeron(link_kind kind, std::uint64_t word, std::uint64_t key)
+    {
+        derrimas_finalizers_linked answer;
+        check(derrimas_finalizers_ephemeron(&handle_, of(kind), word, key, &answer));
+        return static_cast<link_answer>(answer);
+    }
+
+    bool end_ephemeron(std::uint64_t word)
+    {
+        bool was;
+        check(derrimas_finalizers_end_ephemeron(&handle_, word, &was));
+        return was;
+    }
+
+    link_answer move_ephemeron(std::uint64_t word, std::uint64_t to)
+    {
+        derrimas_finalizers_linked answer;
+        check(derrimas_finalizers_move_ephemeron(&handle_, word, to, &answer));
+        return static_cast<link_answer>(answer);
+    }
+
     /* The number of the cleanup. */
     std::uint64_t add_cleanup(std::uint64_t object, when when, std::uint64_t proc, std::uint64_t cd, std::uint8_t rank = 0)
     {
@@ -202,10 +230,10 @@ public:
 
     /* A whole pass, whose questions the members of `host` answer and carry out: bool is_marked(object), mark_children(object, but_itself), mark(object),
      * mark_alone(object), clear(word), bool holder_is_marked(word). If one throws, the pass is abandoned. For finalizers that ask about regions the host has
-     * std::uint64_t marks(first) too; otherwise the pass is refused with BadOptions. */
+     * std::uint64_t marks(first) too, and for those with ephemerons bool mark_value(word); otherwise the pass is refused with BadOptions. */
     template <typename Host> passed pass(Host &&host)
     {
-        if (handle_.asks_marks && !has_marks<Host>::value)
+        if ((handle_.asks_marks && !has_marks<Host>::value) || (!has_mark_value<Host>::value && has_ephemerons()))
             throw refused(DERRIMAS_FINALIZERS_BAD_OPTIONS);
         open_pass open(*this);
         question question;
@@ -323,6 +351,16 @@ public:
                 visit(some[n]);
     }
 
+    /* The same with each ephemeron of the kind. */
+    template <typename Visit> void ephemerons(link_kind kind, Visit visit) const
+    {
+        linked some[PART];
+        std::uint64_t from = 0;
+        for (std::size_t count; found(derrimas_finalizers_ephemerons(&handle_, of(kind), &from, some, PART, &count));)
+            for (std::size_t n = 0; n < count; n++)
+                visit(some[n]);
+    }
+
     /* The same with each cleanup. */
     template <typename Visit> void cleanups(Visit visit) const
     {
@@ -350,6 +388,13 @@ public:
     {
         std::uint64_t target;
         return found(derrimas_finalizers_target(&handle_, of(kind), word, &target)) ? std::optional(target) : std::nullopt;
+    }
+
+    std::optional<keyed> key(std::uint64_t word) const
+    {
+        derrimas_finalizers_link_kind kind;
+        std::uint64_t key;
+        return found(derrimas_finalizers_key(&handle_, word, &kind, &key)) ? std::optional(keyed{static_cast<link_kind>(kind), key}) : std::nullopt;
     }
 
     /* The first entry from this place in the queue on that isn't finished. */
@@ -457,6 +502,25 @@ private:
         return found(take(&handle_, &entry)) ? std::optional(entry) : std::nullopt;
     }
 
+    bool has_ephemerons() const
+    {
+        derrimas_finalizers_counts counts;
+        return derrimas_finalizers_count(&handle_, &counts) == DERRIMAS_FINALIZERS_OK && counts.short_ephemerons + counts.long_ephemerons > 0;
+    }
+
+    /* Whether a host has a member `mark_value`, and what it returns. */
+    template <typename Host, typename = void> struct has_mark_value : std::false_type {};
+    template <typename Host>
+    struct has_mark_value<Host, std::void_t<decltype(std::declval<Host &>().mark_value(std::uint64_t{}))>> : std::true_type {};
+
+    template <typename Host> static bool value_marked(Host &host, std::uint64_t word)
+    {
+        if constexpr (has_mark_value<Host>::value)
+            return host.mark_value(word);
+        else
+            throw refused(DERRIMAS_FINALIZERS_BAD_OPTIONS);
+    }
+
     /* Whether a host has a member `marks`, and its word of a region. */
     template <typename Host, typename = void> struct has_marks : std::false_type {};
     template <typename Host>
@@ -482,6 +546,7 @@ private:
         case DERRIMAS_ASK_CLEAR: host.clear(what); break;
         case DERRIMAS_ASK_HOLDER_IS_MARKED: return host.holder_is_marked(what);
         case DERRIMAS_ASK_MARKS: break; /* answered by a word */
+        case DERRIMAS_ASK_MARK_VALUE: return value_marked(host, what);
         }
         return false;
     }

@@ -103,8 +103,8 @@ void derrimas_finalizers_dump(const derrimas_finalizers *finalizers, void (*line
         line(data, "not open");
         return;
     }
-    snprintf(text, sizeof text, "registrations %" PRIu64 ", short links %" PRIu64 ", long links %" PRIu64 ", cleanups %" PRIu64, counts.registrations,
-             counts.short_links, counts.long_links, counts.cleanups);
+    snprintf(text, sizeof text, "registrations %" PRIu64 ", short links %" PRIu64 ", long links %" PRIu64 ", cleanups %" PRIu64 ", ephemerons %" PRIu64,
+             counts.registrations, counts.short_links, counts.long_links, counts.cleanups, counts.short_ephemerons + counts.long_ephemerons);
     line(data, text);
     snprintf(text, sizeof text, "passes %" PRIu64 ", entries queued %" PRIu64 ", waiting %" PRIu64 ", held %" PRIu64, counts.passes, counts.queued,
              counts.waiting, counts.held);

@@ -217,7 +217,7 @@ code derrimas_finalizers_shrink(derrimas_finalizers *finalizers)
     return after_memory(fz_machine_shrink(finalizers));
 }
 
-/* ---- registrations, links and cleanups */
+/* ---- registrations, links, ephemerons and cleanups */
 
 code derrimas_finalizers_register(derrimas_finalizers *finalizers, uint64_t object, derrimas_finalizers_kind kind, uint64_t proc, uint64_t cd,
                                   uint8_t rank, uint64_t *number, derrimas_finalizers_old *old)
@@ -248,7 +248,7 @@ code derrimas_finalizers_unregister(derrimas_finalizers *finalizers, uint64_t ob
     return fz_machine_unregister(finalizers, object, old ? old : &unwanted);
 }
 
-/* Writes an answer about links, of which an export returns gc.h's number, if the call was accepted and it has a place. */
+/* Writes an answer about links or ephemerons, of which an export returns gc.h's number, if the call was accepted and it has a place. */
 static code answered(code it, uint8_t found, derrimas_finalizers_linked *answer)
 {
     if (it == DERRIMAS_FINALIZERS_OK && answer)
@@ -287,6 +287,34 @@ code derrimas_finalizers_move_link(derrimas_finalizers *finalizers, derrimas_fin
     if (!is_links(kind))
         return DERRIMAS_FINALIZERS_BAD_KIND;
     it = fz_machine_move_link(finalizers, kind == DERRIMAS_FINALIZERS_LONG, word, to, &found);
+    return answered(it, found, answer);
+}
+
+code derrimas_finalizers_ephemeron(derrimas_finalizers *finalizers, derrimas_finalizers_link_kind kind, uint64_t word, uint64_t key,
+                                   derrimas_finalizers_linked *answer)
+{
+    uint8_t found = 0;
+    code it;
+
+    if (!is_links(kind))
+        return DERRIMAS_FINALIZERS_BAD_KIND;
+    current = &finalizers->allocator;
+    it = after_memory(fz_machine_ephemeron(finalizers, kind == DERRIMAS_FINALIZERS_LONG, word, key, &found));
+    return answered(it, found, answer);
+}
+
+code derrimas_finalizers_end_ephemeron(derrimas_finalizers *finalizers, uint64_t word, bool *was)
+{
+    bool unwanted;
+
+    return fz_machine_end_ephemeron(finalizers, word, was ? was : &unwanted);
+}
+
+code derrimas_finalizers_move_ephemeron(derrimas_finalizers *finalizers, uint64_t word, uint64_t to, derrimas_finalizers_linked *answer)
+{
+    uint8_t found = 0;
+    code it = fz_machine_move_ephemeron(finalizers, word, to, &found);
+
     return answered(it, found, answer);
 }
 
@@ -409,7 +437,7 @@ code derrimas_finalizers_finish(derrimas_finalizers *finalizers, const derrimas_
 
 bool derrimas_finalizers_has_waiting(const derrimas_finalizers *finalizers) { return (int64_t)__atomic_load_n(&finalizers->waiting, __ATOMIC_RELAXED) > 0; }
 
-/* ---- what is registered, linked and added, and roots */
+/* ---- what is registered, linked, keyed and added, and roots */
 
 /* What a part of a walk returns, of which so many were copied: the next part begins behind them. */
 static code walked(code it, size_t filled, uint64_t *from, size_t *count)
@@ -481,8 +509,11 @@ code derrimas_finalizers_registrations(const derrimas_finalizers *finalizers, ui
     return walked(it, filled, from, count);
 }
 
-code derrimas_finalizers_links(const derrimas_finalizers *finalizers, derrimas_finalizers_link_kind kind, uint64_t *from,
-                               derrimas_finalizers_link_at *buffer, size_t room, size_t *count)
+typedef uint8_t part_of_links(derrimas_finalizers *, bool is_long, uint64_t from, fz_machine_some_links *);
+
+/* A part of a walk over links or ephemerons, which an export shows. */
+static code walked_by(part_of_links *part, const derrimas_finalizers *finalizers, derrimas_finalizers_link_kind kind, uint64_t *from,
+                      derrimas_finalizers_link_at *buffer, size_t room, size_t *count)
 {
     derrimas_finalizers copy = copied(finalizers);
     fz_machine_some_links some;
@@ -492,12 +523,26 @@ code derrimas_finalizers_links(const derrimas_finalizers *finalizers, derrimas_f
     if (!is_links(kind))
         return DERRIMAS_FINALIZERS_BAD_KIND;
     do {
-        it = fz_machine_links(&copy, kind == DERRIMAS_FINALIZERS_LONG, *from + filled, &some);
+        it = part(&copy, kind == DERRIMAS_FINALIZERS_LONG, *from + filled, &some);
         for (uint64_t i = 0; it == DERRIMAS_FINALIZERS_OK && i < some.count && filled < room; i++)
             buffer[filled++] = some.links[i];
     } while (it == DERRIMAS_FINALIZERS_OK && filled < room);
     return walked(it, filled, from, count);
 }
+
+code derrimas_finalizers_links(const derrimas_finalizers *finalizers, derrimas_finalizers_link_kind kind, uint64_t *from,
+                               derrimas_finalizers_link_at *buffer, size_t room, size_t *count)
+{
+    return walked_by(fz_machine_links, finalizers, kind, from, buffer, room, count);
+}
+
+code derrimas_finalizers_ephemerons(const derrimas_finalizers *finalizers, derrimas_finalizers_link_kind kind, uint64_t *from,
+                                    derrimas_finalizers_link_at *buffer, size_t room, size_t *count)
+{
+    return walked_by(fz_machine_ephemerons, finalizers, kind, from, buffer, room, count);
+}
+
+static derrimas_finalizers_link_kind kind_of(bool is_long) { return is_long ? DERRIMAS_FINALIZERS_LONG : DERRIMAS_FINALIZERS_SHORT; }
 
 /* A cleanup with its moment as C has it. */
 static derrimas_finalizers_cleanup_at shown_cleanup(const fz_machine_cleanup_at *found)
@@ -508,7 +553,7 @@ static derrimas_finalizers_cleanup_at shown_cleanup(const fz_machine_cleanup_at 
     it.object = found->object;
     it.proc = found->proc;
     it.cd = found->cd;
-    it.when = found->is_long ? DERRIMAS_FINALIZERS_LONG : DERRIMAS_FINALIZERS_SHORT;
+    it.when = kind_of(found->is_long);
     it.rank = found->rank;
     return it;
 }
@@ -562,6 +607,20 @@ code derrimas_finalizers_target(const derrimas_finalizers *finalizers, derrimas_
     derrimas_finalizers copy = copied(finalizers);
 
     return is_links(kind) ? (code)fz_machine_target(&copy, kind == DERRIMAS_FINALIZERS_LONG, word, target) : DERRIMAS_FINALIZERS_BAD_KIND;
+}
+
+code derrimas_finalizers_key(const derrimas_finalizers *finalizers, uint64_t word, derrimas_finalizers_link_kind *kind, uint64_t *key)
+{
+    derrimas_finalizers copy = copied(finalizers);
+    fz_machine_key_at found;
+    code it = fz_machine_key(&copy, word, &found);
+
+    if (it != DERRIMAS_FINALIZERS_OK)
+        return it;
+    if (kind)
+        *kind = kind_of(found.is_long);
+    *key = found.key;
+    return it;
 }
 
 code derrimas_finalizers_count(const derrimas_finalizers *finalizers, derrimas_finalizers_counts *counts)

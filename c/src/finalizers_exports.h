@@ -6,7 +6,7 @@
 #include "derrimas_finalizers.h"
 
 #define FZ_MACHINE_WORDS 512 /* the most roots of a call */
-#define FZ_MACHINE_PART 64   /* the most registrations, links or cleanups of a call */
+#define FZ_MACHINE_PART 64   /* the most registrations, links, ephemerons or cleanups of a call */
 
 typedef struct fz_machine_registered {
     uint64_t number;
@@ -32,6 +32,11 @@ typedef struct fz_machine_some_links {
     derrimas_finalizers_link_at links[FZ_MACHINE_PART];
     uint64_t count;
 } fz_machine_some_links;
+
+typedef struct fz_machine_key_at {
+    uint64_t key;
+    bool is_long;
+} fz_machine_key_at;
 
 typedef struct fz_machine_cleanup_at {
     uint64_t number, object, proc, cd;
@@ -65,6 +70,9 @@ uint8_t fz_machine_unregister(derrimas_finalizers *finalizers, uint64_t object, 
 uint8_t fz_machine_link(derrimas_finalizers *finalizers, bool is_long, uint64_t word, uint64_t target, uint8_t *answer);
 uint8_t fz_machine_unlink(derrimas_finalizers *finalizers, bool is_long, uint64_t word, bool *was);
 uint8_t fz_machine_move_link(derrimas_finalizers *finalizers, bool is_long, uint64_t word, uint64_t to, uint8_t *answer);
+uint8_t fz_machine_ephemeron(derrimas_finalizers *finalizers, bool is_long, uint64_t word, uint64_t key, uint8_t *answer);
+uint8_t fz_machine_end_ephemeron(derrimas_finalizers *finalizers, uint64_t word, bool *was);
+uint8_t fz_machine_move_ephemeron(derrimas_finalizers *finalizers, uint64_t word, uint64_t to, uint8_t *answer);
 uint8_t fz_machine_add_cleanup(derrimas_finalizers *finalizers, uint64_t object, bool is_long, uint64_t proc, uint64_t cd, uint8_t rank, uint64_t *number);
 uint8_t fz_machine_cancel(derrimas_finalizers *finalizers, uint64_t number, derrimas_finalizers_old *old);
 uint8_t fz_machine_begin(derrimas_finalizers *finalizers);
@@ -80,10 +88,12 @@ uint8_t fz_machine_roots(derrimas_finalizers *finalizers, uint8_t sort, uint64_t
 uint8_t fz_machine_count(derrimas_finalizers *finalizers, derrimas_finalizers_counts *counts);
 uint8_t fz_machine_registrations(derrimas_finalizers *finalizers, uint64_t from, fz_machine_some_registrations *registrations);
 uint8_t fz_machine_links(derrimas_finalizers *finalizers, bool is_long, uint64_t from, fz_machine_some_links *links);
+uint8_t fz_machine_ephemerons(derrimas_finalizers *finalizers, bool is_long, uint64_t from, fz_machine_some_links *ephemerons);
 uint8_t fz_machine_cleanups(derrimas_finalizers *finalizers, uint64_t from, fz_machine_some_cleanups *cleanups);
 uint8_t fz_machine_cleanup(derrimas_finalizers *finalizers, uint64_t number, fz_machine_cleanup_at *cleanup);
 uint8_t fz_machine_registration(derrimas_finalizers *finalizers, uint64_t object, fz_machine_registration_at *registration);
 uint8_t fz_machine_target(derrimas_finalizers *finalizers, bool is_long, uint64_t word, uint64_t *target);
+uint8_t fz_machine_key(derrimas_finalizers *finalizers, uint64_t word, fz_machine_key_at *key);
 uint8_t fz_machine_why(derrimas_finalizers *finalizers, fz_snapshot *snapshot, uint64_t object, fz_machine_told *told);
 uint8_t fz_machine_stuck(derrimas_finalizers *finalizers, fz_snapshot *snapshot, uint64_t *count);
 uint8_t fz_snapshot_open(fz_snapshot *snapshot);

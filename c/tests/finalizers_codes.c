@@ -65,6 +65,18 @@ uint8_t fz_machine_move_link(derrimas_finalizers *f, bool is_long, uint64_t word
     return told_link(noted(place, sizeof *place, f == &finalizers, is_long, word, to, 0), place);
 }
 
+uint8_t fz_machine_ephemeron(derrimas_finalizers *f, bool is_long, uint64_t word, uint64_t key, uint8_t *place)
+{
+    return told_link(noted(place, sizeof *place, f == &finalizers, is_long, word, key, 2), place);
+}
+
+uint8_t fz_machine_end_ephemeron(derrimas_finalizers *f, uint64_t word, bool *ended) { return noted(ended, sizeof *ended, f == &finalizers, word, 3, 0, 0); }
+
+uint8_t fz_machine_move_ephemeron(derrimas_finalizers *f, uint64_t word, uint64_t to, uint8_t *place)
+{
+    return told_link(noted(place, sizeof *place, f == &finalizers, word, to, 4, 0), place);
+}
+
 uint8_t fz_machine_add_cleanup(derrimas_finalizers *f, uint64_t object, bool is_long, uint64_t proc, uint64_t cd, uint8_t rank, uint64_t *place)
 {
     uint8_t code = noted(place, sizeof *place, object, is_long, proc, cd, rank);
@@ -157,13 +169,28 @@ uint8_t fz_machine_registrations(derrimas_finalizers *f, uint64_t from, fz_machi
     return code;
 }
 
-uint8_t fz_machine_links(derrimas_finalizers *f, bool is_long, uint64_t from, fz_machine_some_links *place)
+/* Links, or ephemerons, whose targets are so many times their words. */
+static uint8_t some_links(derrimas_finalizers *f, bool is_long, uint64_t from, uint64_t times, fz_machine_some_links *place)
 {
     uint8_t code = from < 1000 ? noted(place, sizeof *place, is_copy(f), is_long, from, 0, 0) : DERRIMAS_FINALIZERS_EMPTY;
 
     if (code == DERRIMAS_FINALIZERS_OK)
         for (place->count = part_from(from); given[3] < place->count; given[3]++)
-            place->links[given[3]] = (derrimas_finalizers_link_at){from + given[3], 2 * (from + given[3])};
+            place->links[given[3]] = (derrimas_finalizers_link_at){from + given[3], times * (from + given[3])};
+    return code;
+}
+
+uint8_t fz_machine_links(derrimas_finalizers *f, bool is_long, uint64_t from, fz_machine_some_links *place) { return some_links(f, is_long, from, 2, place); }
+uint8_t fz_machine_ephemerons(derrimas_finalizers *f, bool is_long, uint64_t from, fz_machine_some_links *place) { return some_links(f, is_long, from, 3, place); }
+
+static bool long_key; /* whether the ephemeron of a word is long */
+
+uint8_t fz_machine_key(derrimas_finalizers *f, uint64_t word, fz_machine_key_at *place)
+{
+    uint8_t code = noted(place, sizeof *place, is_copy(f), word, 0, 0, 0);
+
+    if (code == DERRIMAS_FINALIZERS_OK)
+        *place = (fz_machine_key_at){61, long_key};
     return code;
 }
 
@@ -235,10 +262,14 @@ static void answers_of_links(void)
         OK(derrimas_finalizers_move_link(&finalizers, DERRIMAS_FINALIZERS_LONG, 8, 9, &linked));
         IS(linked, all[n]);
         IS(linked, 128 + n);
+        OK(derrimas_finalizers_move_ephemeron(&finalizers, 8, 9, &linked));
+        IS(linked, all[n]);
         IS(DERRIMAS_FINALIZERS_GC_ANSWER(linked), numbers[n]);
         if (n == 2)
             continue;
         OK(derrimas_finalizers_link(&finalizers, DERRIMAS_FINALIZERS_LONG, 8, 9, &linked));
+        IS(linked, all[n]);
+        OK(derrimas_finalizers_ephemeron(&finalizers, DERRIMAS_FINALIZERS_SHORT, 8, 9, &linked));
         IS(linked, all[n]);
     }
     link_answer = 0;
@@ -275,6 +306,13 @@ static void changes(void)
     THROUGH(linked, derrimas_finalizers_move_link(&finalizers, DERRIMAS_FINALIZERS_SHORT, 8, 9, &linked), 1, 0, 8, 9);
     answers_of_links();
     THROUGH(was, derrimas_finalizers_unlink(&finalizers, DERRIMAS_FINALIZERS_LONG, 8, &was), 1, 1, 8);
+    THROUGH(linked, derrimas_finalizers_ephemeron(&finalizers, DERRIMAS_FINALIZERS_LONG, 8, 9, &linked), 1, 1, 8, 9, 2);
+    THROUGH(linked, derrimas_finalizers_ephemeron(&finalizers, DERRIMAS_FINALIZERS_SHORT, 8, 9, &linked), 1, 0, 8, 9, 2);
+    THROUGH(linked, derrimas_finalizers_move_ephemeron(&finalizers, 8, 9, &linked), 1, 8, 9, 4);
+    THROUGH(was, derrimas_finalizers_end_ephemeron(&finalizers, 8, &was), 1, 8, 3);
+    IS(derrimas_finalizers_ephemeron(&finalizers, DERRIMAS_FINALIZERS_SHORT, 8, 9, NULL), answer);
+    IS(derrimas_finalizers_move_ephemeron(&finalizers, 8, 9, NULL), answer);
+    IS(derrimas_finalizers_end_ephemeron(&finalizers, 8, NULL), answer);
     THROUGH(number, derrimas_finalizers_add_cleanup(&finalizers, 3, DERRIMAS_FINALIZERS_LONG, 4, 5, 6, &number), 3, 1, 4, 5, 6);
     THROUGH(number, derrimas_finalizers_add_cleanup(&finalizers, 3, DERRIMAS_FINALIZERS_SHORT, 4, 5, 6, &number), 3, 0, 4, 5, 6);
     IS(answer != DERRIMAS_FINALIZERS_OK || number == 25, true);
@@ -364,12 +402,13 @@ static void walks(size_t room)
     static derrimas_finalizers_registration_at registrations[1000];
     static derrimas_finalizers_link_at links[1000];
     const uint8_t ends = answer == DERRIMAS_FINALIZERS_OK ? DERRIMAS_FINALIZERS_EMPTY : answer; /* a part without room */
-    uint64_t from = 100, of_links = 100;
+    uint64_t from = 100, of_links = 100, of_ephemerons = 100;
     size_t count;
 
     REFUSED(ends, count, derrimas_finalizers_registrations(&finalizers, &from, registrations, 0, &count));
     REFUSED(ends, count, derrimas_finalizers_links(&finalizers, DERRIMAS_FINALIZERS_LONG, &of_links, links, 0, &count));
-    IS(from == 100 && of_links == 100, true);
+    REFUSED(ends, count, derrimas_finalizers_ephemerons(&finalizers, DERRIMAS_FINALIZERS_LONG, &of_ephemerons, links, 0, &count));
+    IS(from == 100 && of_links == 100 && of_ephemerons == 100, true);
     for (uint64_t before = 100; derrimas_finalizers_registrations(&finalizers, &from, registrations, room, &count) == DERRIMAS_FINALIZERS_OK; before = from) {
         IS(count >= 1 && count <= room && from == before + count && from <= 1000, true);
         for (size_t n = 0; n < count; n++)
@@ -378,7 +417,25 @@ static void walks(size_t room)
     while (derrimas_finalizers_links(&finalizers, DERRIMAS_FINALIZERS_SHORT, &of_links, links, room, &count) == DERRIMAS_FINALIZERS_OK)
         for (size_t n = 0; n < count; n++)
             IS(links[n].word == of_links - count + n && links[n].target == 2 * links[n].word, true);
-    IS(from == of_links && from == (answer == DERRIMAS_FINALIZERS_OK ? 1000 : 100), true);
+    while (derrimas_finalizers_ephemerons(&finalizers, DERRIMAS_FINALIZERS_SHORT, &of_ephemerons, links, room, &count) == DERRIMAS_FINALIZERS_OK)
+        for (size_t n = 0; n < count; n++)
+            IS(links[n].word == of_ephemerons - count + n && links[n].target == 3 * links[n].word, true);
+    IS(from == of_links && from == of_ephemerons && from == (answer == DERRIMAS_FINALIZERS_OK ? 1000 : 100), true);
+}
+
+/* The kind has a place of its own, which may be NULL. */
+static void reads_key(void)
+{
+    for (unsigned n = 0; n < 2; n++) {
+        derrimas_finalizers_link_kind kind;
+
+        long_key = n == 1;
+        memset(&kind, 1, sizeof kind);
+        THROUGH(number, derrimas_finalizers_key(&finalizers, 20, &kind, &number), 1, 20);
+        IS(is_filled(&kind, sizeof kind), answer != DERRIMAS_FINALIZERS_OK);
+        IS(answer != DERRIMAS_FINALIZERS_OK || (number == 61 && kind == (n ? DERRIMAS_FINALIZERS_LONG : DERRIMAS_FINALIZERS_SHORT)), true);
+        THROUGH(number, derrimas_finalizers_key(&finalizers, 20, NULL, &number), 1, 20);
+    }
 }
 
 static void reads(void)
@@ -437,6 +494,8 @@ static void bad_kinds(void)
     IS(derrimas_finalizers_add_cleanup(&finalizers, 3, (derrimas_finalizers_when)kind, 4, 5, 6, NULL), DERRIMAS_FINALIZERS_BAD_KIND);
     IS(derrimas_finalizers_link(&finalizers, kind, 8, 9, NULL), DERRIMAS_FINALIZERS_BAD_KIND);
     IS(derrimas_finalizers_unlink(&finalizers, kind, 8, NULL), DERRIMAS_FINALIZERS_BAD_KIND);
+    IS(derrimas_finalizers_ephemeron(&finalizers, kind, 8, 9, NULL), DERRIMAS_FINALIZERS_BAD_KIND);
+    IS(derrimas_finalizers_ephemerons(&finalizers, kind, &from, NULL, 0, &count), DERRIMAS_FINALIZERS_BAD_KIND);
     IS(derrimas_finalizers_move_link(&finalizers, kind, 8, 9, NULL), DERRIMAS_FINALIZERS_BAD_KIND);
     IS(derrimas_finalizers_target(&finalizers, kind, 8, &target), DERRIMAS_FINALIZERS_BAD_KIND);
     IS(derrimas_finalizers_links(&finalizers, kind, &from, NULL, 0, &count), DERRIMAS_FINALIZERS_BAD_KIND);
@@ -467,6 +526,7 @@ int main(void)
         changes();
         waiting();
         reads();
+        reads_key();
         for (size_t room = 1; room < 1000; room += room) {
             walks(room);
             walks_of_cleanups(room);

@@ -1,4 +1,4 @@
-/* finalizers_costs N STRIDE: registrations, links, cleanups, walks and look-ups of N objects so many numbers apart. c/run counts the instructions of each function here
+/* finalizers_costs N STRIDE: registrations, links, ephemerons, cleanups, walks and look-ups of N objects so many numbers apart. c/run counts the instructions of each function here
  * whose name begins with `cost_`: for each of N, or of 10,000 calls where it finds something, they don't grow with N.
  */
 #include "check.h"
@@ -86,6 +86,31 @@ COST cost_moving(void)
         wrong += derrimas_finalizers_move_link(&finalizers, DERRIMAS_FINALIZERS_LONG, object_at(n), object_at(size + n), NULL) != DERRIMAS_FINALIZERS_OK;
 }
 
+COST cost_keying(void)
+{
+    for (uint64_t n = 0; n < size; n++)
+        wrong += derrimas_finalizers_ephemeron(&finalizers, DERRIMAS_FINALIZERS_LONG, object_at(n), n + 1, NULL) != DERRIMAS_FINALIZERS_OK;
+}
+
+COST cost_finding_keys(void)
+{
+    uint64_t key;
+
+    for (uint64_t n = 0; n < CALLS; n++)
+        wrong += derrimas_finalizers_key(&finalizers, some_object(n), NULL, &key) != DERRIMAS_FINALIZERS_OK;
+}
+
+COST cost_walking_ephemerons(void)
+{
+    derrimas_finalizers_link_at some[PART];
+    uint64_t from = 0;
+    size_t count;
+
+    while (derrimas_finalizers_ephemerons(&finalizers, DERRIMAS_FINALIZERS_LONG, &from, some, PART, &count) == DERRIMAS_FINALIZERS_OK)
+        continue;
+    wrong += from != size;
+}
+
 /* Their numbers follow one another. */
 COST cost_adding(void)
 {
@@ -129,6 +154,10 @@ static void make_room(void)
     for (uint64_t n = 0; n < size; n++)
         OK(derrimas_finalizers_cancel(&finalizers, n, NULL));
     OK(derrimas_finalizers_reserve(&finalizers, 2 * size, 0, size)); /* for their entries too */
+    for (uint64_t n = 0; n < size; n++)
+        OK(derrimas_finalizers_ephemeron(&finalizers, DERRIMAS_FINALIZERS_LONG, object_at(n), n + 1, NULL));
+    for (uint64_t n = 0; n < size; n++)
+        OK(derrimas_finalizers_end_ephemeron(&finalizers, object_at(n), NULL));
 }
 
 int main(int count, char **words)
@@ -145,6 +174,9 @@ int main(int count, char **words)
     cost_walking_links();
     cost_walking_roots();
     cost_moving();
+    cost_keying();
+    cost_finding_keys();
+    cost_walking_ephemerons();
     cost_adding();
     cost_finding_cleanups();
     cost_walking_cleanups();

@@ -1,4 +1,5 @@
-/* A small host for the tests of derrimas_finalizers.h: objects of four words, a mark for each, and roots. It counts what it is asked. */
+/* A small host for the tests of derrimas_finalizers.h: objects of four words, a mark for each, and roots. A word that is `keyed` is an ephemeron, and isn't marked with
+ * its object. The host counts what it is asked. */
 #ifndef FINALIZERS_HOST_H
 #define FINALIZERS_HOST_H
 
@@ -9,12 +10,12 @@ enum { OBJECTS = 2000, WORDS = 4 };
 
 typedef struct object {
     uint64_t words[WORDS];
-    bool is_marked, is_root;
+    bool is_marked, is_root, keyed[WORDS];
 } object;
 
 typedef struct host {
     object objects[OBJECTS];
-    uint64_t asked[DERRIMAS_ASK_MARKS + 1]; /* how often what was asked */
+    uint64_t asked[DERRIMAS_ASK_MARK_VALUE + 1]; /* how often what was asked */
 } host;
 
 static inline uint64_t number_of(const object *it) { return (uint64_t)(uintptr_t)it; }
@@ -35,7 +36,8 @@ static inline void mark(host *all, object *it)
         return;
     it->is_marked = true;
     for (size_t n = 0; n < WORDS; n++)
-        mark(all, found(all, it->words[n]));
+        if (!it->keyed[n])
+            mark(all, found(all, it->words[n]));
 }
 
 static bool answer_is_marked(void *data, uint64_t what)
@@ -53,7 +55,7 @@ static void mark_children(void *data, uint64_t what, bool but_itself)
 
     all->asked[but_itself ? DERRIMAS_ASK_MARK_OTHERS : DERRIMAS_ASK_MARK_CHILDREN]++;
     for (size_t n = 0; n < WORDS; n++)
-        if (!but_itself || found(all, it->words[n]) != it)
+        if (!it->keyed[n] && (!but_itself || found(all, it->words[n]) != it))
             mark(all, found(all, it->words[n]));
 }
 
@@ -106,7 +108,18 @@ static uint64_t answer_marks(void *data, uint64_t first)
     return marks;
 }
 
-static const derrimas_host procedures = {answer_is_marked, mark_children, mark_it, mark_alone, clear, holder_is_marked, answer_marks};
+static bool mark_value(void *data, uint64_t word)
+{
+    host *all = data;
+    object *value = found(all, *(uint64_t *)(uintptr_t)word);
+    const bool is_new = value && !value->is_marked;
+
+    all->asked[DERRIMAS_ASK_MARK_VALUE]++;
+    mark(all, value);
+    return is_new;
+}
+
+static const derrimas_host procedures = {answer_is_marked, mark_children, mark_it, mark_alone, clear, holder_is_marked, answer_marks, mark_value};
 
 /* Marks from the host's roots, and from those of the finalizers. */
 static inline void mark_all(host *all, const derrimas_finalizers *finalizers)

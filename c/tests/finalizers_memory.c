@@ -131,10 +131,10 @@ static void opening(void)
     closes();
 }
 
-/* All is registered, linked and added with too little memory at first; then each object is registered again, in another kind. */
+/* All is registered, linked, keyed and added with too little memory at first; then each object is registered again, and each ephemeron made, in another kind. */
 static void refusals(void)
 {
-    unsigned registering = 0, linking = 0, adding = 0;
+    unsigned registering = 0, linking = 0, keying = 0, adding = 0;
     derrimas_finalizers_linked answer;
     derrimas_finalizers_old old;
     uint64_t number;
@@ -145,16 +145,21 @@ static void refusals(void)
         WITHIN(registering, number, derrimas_finalizers_register(&finalizers, object, (derrimas_finalizers_kind)(n % 4), n, n, 0, &number, NULL));
         WITHIN(linking, answer, derrimas_finalizers_link(&finalizers, DERRIMAS_FINALIZERS_SHORT, word, object, &answer));
         WITHIN(linking, answer, derrimas_finalizers_link(&finalizers, DERRIMAS_FINALIZERS_LONG, word, object, &answer));
+        WITHIN(keying, answer, derrimas_finalizers_ephemeron(&finalizers, (derrimas_finalizers_link_kind)(n % 2), word, object, &answer));
+        IS(answer, DERRIMAS_FINALIZERS_LINKED);
         WITHIN(adding, number, derrimas_finalizers_add_cleanup(&finalizers, object, DERRIMAS_FINALIZERS_SHORT, n, n, 0, &number));
         WITHIN(adding, number, derrimas_finalizers_add_cleanup(&finalizers, object, DERRIMAS_FINALIZERS_LONG, n, n, 0, &number));
         IS(number, 3 * n + 2);
     }
-    IS(registering > 0 && linking > 0 && adding > 0, true);
+    IS(registering > 0 && linking > 0 && keying > 0 && adding > 0, true);
     for (size_t n = 0; n < 300; n++) {
         const derrimas_finalizers_kind kind = (derrimas_finalizers_kind)((n + 1) % 4);
         WITHIN(registering, old, derrimas_finalizers_register(&finalizers, number_of(&objects[n]), kind, n, n, 0, NULL, &old));
         IS(old.was && old.proc == n, true);
+        WITHIN(keying, answer, derrimas_finalizers_ephemeron(&finalizers, (derrimas_finalizers_link_kind)((n + 1) % 2), word_of(&objects[n], 0), 8, &answer));
+        IS(answer, DERRIMAS_FINALIZERS_DUPLICATE);
     }
+    IS(counted().short_ephemerons == 150 && counted().long_ephemerons == 150, true);
     IS(counted().registrations == 300 && counted().short_links == 300 && counted().long_links == 300 && counted().cleanups == 600, true);
     closes();
 }
@@ -198,17 +203,21 @@ static void too_much(void)
     closes();
 }
 
-/* Refused for lack of memory alone, a cleanup is no other cause's; and it uses up none of what is reserved. */
+/* Refused for lack of memory alone, an ephemeron and a cleanup are no other cause's; and they use up none of what is reserved. */
 static void adding_without_memory(void)
 {
+    derrimas_finalizers_linked answer;
     uint64_t number;
 
+    REFUSED(DERRIMAS_FINALIZERS_ZERO, answer, derrimas_finalizers_ephemeron(&finalizers, DERRIMAS_FINALIZERS_LONG, 8, 0, &answer));
+    for (size_t n = 0; n < 10; n++)
+        REFUSED(DERRIMAS_FINALIZERS_NO_MEMORY, answer, derrimas_finalizers_ephemeron(&finalizers, DERRIMAS_FINALIZERS_LONG, 8, 16, &answer));
     REFUSED(DERRIMAS_FINALIZERS_ZERO, number, derrimas_finalizers_add_cleanup(&finalizers, 0, DERRIMAS_FINALIZERS_LONG, 1, 2, 3, &number));
     for (size_t n = 0; n < 10; n++)
         REFUSED(DERRIMAS_FINALIZERS_NO_MEMORY, number, derrimas_finalizers_add_cleanup(&finalizers, 8, DERRIMAS_FINALIZERS_LONG, 1, 2, 3, &number));
 }
 
-/* Up to what is reserved, no memory is asked for but for cleanups and for regions, without which registrations are accepted. */
+/* Up to what is reserved, no memory is asked for but for ephemerons, for cleanups and for regions, without which registrations are accepted. */
 static void reserved(void)
 {
     unsigned refused = 0, before;
@@ -346,12 +355,14 @@ static uint64_t of_peak(uint64_t peak, uint64_t left, bool shrinks, long granted
         OK(derrimas_finalizers_register(&finalizers, 8 * n, (derrimas_finalizers_kind)(n % 4), n, n, 0, NULL, NULL));
         OK(derrimas_finalizers_link(&finalizers, DERRIMAS_FINALIZERS_SHORT, 8 * n, n, NULL));
         OK(derrimas_finalizers_link(&finalizers, DERRIMAS_FINALIZERS_LONG, 8 * n, n, NULL));
+        OK(derrimas_finalizers_ephemeron(&finalizers, (derrimas_finalizers_link_kind)(n % 2), 8 * n, 8 * n, NULL));
         OK(derrimas_finalizers_add_cleanup(&finalizers, 8 * n, (derrimas_finalizers_when)(n % 2), n, n, 0, NULL));
     }
     for (uint64_t n = left + 1; n <= peak; n++) {
         OK(derrimas_finalizers_unregister(&finalizers, 8 * n, NULL));
         OK(derrimas_finalizers_unlink(&finalizers, DERRIMAS_FINALIZERS_SHORT, 8 * n, NULL));
         OK(derrimas_finalizers_unlink(&finalizers, DERRIMAS_FINALIZERS_LONG, 8 * n, NULL));
+        OK(derrimas_finalizers_end_ephemeron(&finalizers, 8 * n, NULL));
         OK(derrimas_finalizers_cancel(&finalizers, 2 * n - 1, NULL));
     }
     forgets_regions(left);
@@ -360,6 +371,7 @@ static uint64_t of_peak(uint64_t peak, uint64_t left, bool shrinks, long granted
         OK(derrimas_finalizers_shrink(&finalizers));
     first.granted = -1;
     IS(counted().registrations == left && counted().short_links == left && counted().long_links == left && counted().cleanups == left, true);
+    IS(counted().short_ephemerons + counted().long_ephemerons, left);
     live = first.live;
     for (uint64_t n = 1; n <= peak; n++)
         IS(finds(8 * n) == (n <= left) && finds_cleanup(2 * n - 1) == (n <= left), true);
@@ -439,6 +451,9 @@ static void fill(void)
         OK(derrimas_finalizers_register(&finalizers, number_of(&objects[n]), (derrimas_finalizers_kind)(n % 4), n, n + 1, (uint8_t)(n % 7), NULL, NULL));
         OK(derrimas_finalizers_link(&finalizers, DERRIMAS_FINALIZERS_SHORT, word_of(&objects[n], 1), number_of(&objects[(n + 1) % OBJECTS]), NULL));
         OK(derrimas_finalizers_link(&finalizers, DERRIMAS_FINALIZERS_LONG, word_of(&objects[n], 2), number_of(&objects[(n + 2) % OBJECTS]), NULL));
+        objects[n].keyed[3] = true;
+        objects[n].words[3] = n % 8 == 0 ? number_of(&objects[(n + 9) % OBJECTS]) : 0;
+        OK(derrimas_finalizers_ephemeron(&finalizers, (derrimas_finalizers_link_kind)(n % 2), word_of(&objects[n], 3), number_of(&objects[(n + 5) % OBJECTS]), NULL));
         for (int when = DERRIMAS_FINALIZERS_SHORT; when <= DERRIMAS_FINALIZERS_LONG; when++)
             OK(derrimas_finalizers_add_cleanup(&finalizers, number_of(&objects[n]), (derrimas_finalizers_when)when, n, n + 1, (uint8_t)(n % 7), &cleanups[when][n]));
     }
@@ -461,6 +476,8 @@ static void others(void)
     for (size_t n = 0; n < OBJECTS; n += 2) {
         OK(derrimas_finalizers_move_link(&finalizers, DERRIMAS_FINALIZERS_SHORT, word_of(&objects[n], 1), word_of(&objects[n], 3), NULL));
         OK(derrimas_finalizers_unlink(&finalizers, DERRIMAS_FINALIZERS_LONG, word_of(&objects[n], 2), NULL));
+        OK(derrimas_finalizers_move_ephemeron(&finalizers, word_of(&objects[n], 3), word_of(&objects[n], 2), NULL));
+        OK(n % 3 ? DERRIMAS_FINALIZERS_OK : derrimas_finalizers_end_ephemeron(&finalizers, word_of(&objects[n], 2), NULL));
         OK(derrimas_finalizers_unregister(&finalizers, number_of(&objects[n]), NULL));
         OK(derrimas_finalizers_cancel(&finalizers, cleanups[n / 2 % 2][n], NULL));
     }
@@ -505,13 +522,15 @@ static void reads(void)
         derrimas_finalizers_link_kind of = (derrimas_finalizers_link_kind)kind;
         for (from = 0; derrimas_finalizers_links(&finalizers, of, &from, links, 70, &count) == DERRIMAS_FINALIZERS_OK; seen += count)
             OK(derrimas_finalizers_target(&finalizers, of, links[count - 1].word, &target));
+        for (from = 0; derrimas_finalizers_ephemerons(&finalizers, of, &from, links, 70, &count) == DERRIMAS_FINALIZERS_OK; seen += count)
+            OK(derrimas_finalizers_key(&finalizers, links[count - 1].word, NULL, &target));
     }
     for (from = 0; derrimas_finalizers_cleanups(&finalizers, &from, some, 70, &count) == DERRIMAS_FINALIZERS_OK; seen += count)
         OK(derrimas_finalizers_cleanup(&finalizers, some[count - 1].number, some));
     for (int sort = DERRIMAS_FINALIZERS_HELD_OBJECTS; sort <= DERRIMAS_FINALIZERS_REGISTERED_DATA; sort++)
         for (from = 0; derrimas_finalizers_roots(&finalizers, (derrimas_finalizers_root)sort, &from, buffer, 100, &count) == DERRIMAS_FINALIZERS_OK;)
             seen += count;
-    IS(seen, 2 * (counts.registrations + counts.cleanups) + counts.short_links + counts.long_links + counts.waiting + counts.held + with_object());
+    IS(seen, 2 * (counts.registrations + counts.cleanups) + counts.short_links + counts.long_links + counts.short_ephemerons + counts.long_ephemerons + counts.waiting + counts.held + with_object());
     IS(mprotect(first.memory, ROOM, PROT_READ | PROT_WRITE), 0);
 }
 
@@ -562,6 +581,7 @@ static void grows(derrimas_finalizers *it, uint64_t object)
     OK(derrimas_finalizers_register(it, object, (derrimas_finalizers_kind)(object / 8 % 4), object, 0, 0, NULL, NULL));
     OK(derrimas_finalizers_link(it, DERRIMAS_FINALIZERS_SHORT, object, object, NULL));
     OK(derrimas_finalizers_link(it, DERRIMAS_FINALIZERS_LONG, object, object, NULL));
+    OK(derrimas_finalizers_ephemeron(it, DERRIMAS_FINALIZERS_LONG, object, object, NULL));
     OK(derrimas_finalizers_add_cleanup(it, object, DERRIMAS_FINALIZERS_LONG, object, 0, 0, NULL));
 }
 

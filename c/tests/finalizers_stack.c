@@ -11,6 +11,7 @@ static bool is_marked(void *data, uint64_t object) { return (void)data, object %
 static void mark_children(void *data, uint64_t object, bool but_itself) { (void)data, (void)object, (void)but_itself; }
 static void mark(void *data, uint64_t object) { (void)data, (void)object; }
 static uint64_t marks(void *data, uint64_t first) { return (void)data, first; }
+static bool mark_value(void *data, uint64_t word) { return (void)data, word % 2 == 0; }
 static void line(void *data, const char *text) { (void)data, (void)text; }
 
 /* A chain of objects. */
@@ -29,7 +30,7 @@ static bool root(void *data, uint64_t n, uint64_t *to)
     return n == 0;
 }
 
-static const derrimas_host host = {is_marked, mark_children, mark, mark, mark, is_marked, marks};
+static const derrimas_host host = {is_marked, mark_children, mark, mark, mark, is_marked, marks, mark_value};
 static const derrimas_paths paths = {child, root, NULL};
 
 static void fill(derrimas_finalizers *it)
@@ -39,6 +40,8 @@ static void fill(derrimas_finalizers *it)
         OK(derrimas_finalizers_register(it, n, (derrimas_finalizers_kind)(n % 4), n, 0, (uint8_t)(n * 7), NULL, NULL));
         OK(derrimas_finalizers_link(it, (derrimas_finalizers_link_kind)(n % 2), 2 * n, n, NULL));
         OK(derrimas_finalizers_move_link(it, (derrimas_finalizers_link_kind)(n % 2), 2 * n, 2 * n + 1, NULL));
+        OK(derrimas_finalizers_ephemeron(it, (derrimas_finalizers_link_kind)(n % 2), 2 * n, n, NULL));
+        OK(derrimas_finalizers_move_ephemeron(it, 2 * n, 2 * n + 1, NULL));
         OK(derrimas_finalizers_add_cleanup(it, n, (derrimas_finalizers_when)(n % 2), n, 0, (uint8_t)(n * 5), NULL));
     }
 }
@@ -49,12 +52,13 @@ static void *walks(void *at)
     derrimas_finalizers_registration_at registration;
     derrimas_finalizers_link_at link;
     derrimas_finalizers_cleanup_at cleanup;
-    uint64_t from[4] = {0}, some;
+    uint64_t from[5] = {0}, some;
     size_t count;
 
     fill(it);
     OK(derrimas_finalizers_registrations(it, &from[0], &registration, 1, &count));
     OK(derrimas_finalizers_links(it, DERRIMAS_FINALIZERS_SHORT, &from[1], &link, 1, &count));
+    OK(derrimas_finalizers_ephemerons(it, DERRIMAS_FINALIZERS_LONG, &from[4], &link, 1, &count));
     OK(derrimas_finalizers_cleanups(it, &from[2], &cleanup, 1, &count));
     OK(derrimas_finalizers_queue_cleanups(it, NULL));
     OK(derrimas_finalizers_queue_all(it, NULL));

@@ -125,7 +125,7 @@ static bool holder_is_marked(void *data, uint64_t word)
 
 static void collect(heap *it)
 {
-    static const derrimas_host host = {is_marked, mark_children, mark, mark_alone, clear, holder_is_marked, NULL};
+    static const derrimas_host host = {is_marked, mark_children, mark, mark_alone, clear, holder_is_marked, NULL, NULL};
     uint64_t some[64], from;
     size_t count;
 

@@ -31,7 +31,7 @@ class Finalizers:
     refused = range(11)
     shared = {'OVERLAP'}  # codes from there on that an export returns
     types = {'MachineHandle': 'derrimas_finalizers', 'SnapshotHandle': 'fz_snapshot', 'Told': 'fz_machine_told', 'HostEntry': 'derrimas_finalizers_entry', 'Linked': 'derrimas_finalizers_link_at',
-             'RegistrationAt': 'fz_machine_registration_at', 'CleanupAt': 'fz_machine_cleanup_at', 'Question': 'derrimas_question', 'u32': 'derrimas_ask',
+             'RegistrationAt': 'fz_machine_registration_at', 'KeyAt': 'fz_machine_key_at', 'CleanupAt': 'fz_machine_cleanup_at', 'Question': 'derrimas_question', 'u32': 'derrimas_ask',
              **{name: f'fz_machine_some_{name.lower()}' for name in ('Registrations', 'Links', 'Cleanups')},
              **{name: f'fz_machine_{name.lower()}' for name in ('Registered', 'Words')}}
     alone = ['rattle_tried', 'derrimas_finalizers', 'fz_snapshot', 'derrimas_why', 'derrimas_paths', 'derrimas_finalizers_registration_at', 'derrimas_finalizers_cleanup_at', 'derrimas_host', 'derrimas_trace',

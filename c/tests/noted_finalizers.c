@@ -97,6 +97,24 @@ uint8_t fz_machine_move_link(derrimas_finalizers *f, bool is_long, uint64_t word
     return FILLED(noted("move_link %d" N N, is_long, word, to), answer, uint8_t, (uint8_t)V(0));
 }
 
+uint8_t fz_machine_ephemeron(derrimas_finalizers *f, bool is_long, uint64_t word, uint64_t key, uint8_t *answer)
+{
+    (void)f;
+    return FILLED(noted("ephemeron %d" N N, is_long, word, key), answer, uint8_t, (uint8_t)V(0));
+}
+
+uint8_t fz_machine_end_ephemeron(derrimas_finalizers *f, uint64_t word, bool *was)
+{
+    (void)f;
+    return FILLED(noted("end_ephemeron" N, word), was, bool, V(0) != 0);
+}
+
+uint8_t fz_machine_move_ephemeron(derrimas_finalizers *f, uint64_t word, uint64_t to, uint8_t *answer)
+{
+    (void)f;
+    return FILLED(noted("move_ephemeron" N N, word, to), answer, uint8_t, (uint8_t)V(0));
+}
+
 uint8_t fz_machine_add_cleanup(derrimas_finalizers *f, uint64_t object, bool is_long, uint64_t proc, uint64_t cd, uint8_t rank, uint64_t *number)
 {
     (void)f;
@@ -116,6 +134,8 @@ uint8_t fz_machine_begin(derrimas_finalizers *f)
     return noted("begin");
 }
 
+static derrimas_ask ask_of(uint64_t value) { return value == 9 ? DERRIMAS_ASK_MARK_VALUE : (derrimas_ask)(value % 8 + 1); }
+
 /* A question about two objects, whose kind follows from the value. At the end of a pass what it did. */
 uint8_t fz_machine_next(derrimas_finalizers *f, uint64_t answers, derrimas_question *question, derrimas_finalizers_passed *passed)
 {
@@ -124,8 +144,8 @@ uint8_t fz_machine_next(derrimas_finalizers *f, uint64_t answers, derrimas_quest
     (void)f;
     if (code == DERRIMAS_FINALIZERS_EMPTY)
         *passed = (derrimas_finalizers_passed){V(0), V(1)};
-    asked_marks = code == DERRIMAS_FINALIZERS_OK && V(0) % 8 + 1 == DERRIMAS_ASK_MARKS;
-    return FILLED(code, question, derrimas_question, {V(0), V(1)}, 2, (derrimas_ask)(V(0) % 8 + 1), {0});
+    asked_marks = code == DERRIMAS_FINALIZERS_OK && ask_of(V(0)) == DERRIMAS_ASK_MARKS;
+    return FILLED(code, question, derrimas_question, {V(0), V(1)}, 2, ask_of(V(0)), {0});
 }
 
 uint8_t fz_machine_abandon(derrimas_finalizers *f) { return (void)f, noted("abandon"); }
@@ -147,10 +167,13 @@ uint8_t fz_machine_roots(derrimas_finalizers *f, uint8_t sort, uint64_t from, ui
     return FILLED(noted("roots %d" N N, sort, from, most), words, fz_machine_words, {V(0), V(1)}, 2, from + 2);
 }
 
+/* If the value is even there are no ephemerons. */
 uint8_t fz_machine_count(derrimas_finalizers *f, derrimas_finalizers_counts *counts)
 {
+    const uint64_t any = V(0) % 2;
+
     (void)f;
-    return FILLED(noted("count"), counts, derrimas_finalizers_counts, V(0), V(1), V(2), V(3), V(4), V(5), V(6), V(7));
+    return FILLED(noted("count"), counts, derrimas_finalizers_counts, V(0), V(1), V(2), any * V(8), any * V(9), V(3), V(4), V(5), V(6), V(7));
 }
 
 static fz_machine_registration_at registration(uint64_t further)
@@ -170,6 +193,18 @@ uint8_t fz_machine_links(derrimas_finalizers *f, bool is_long, uint64_t from, fz
 {
     (void)f;
     return FILLED(noted("links %d" N, is_long, from), some, fz_machine_some_links, {{V(0), V(1)}, {V(10), V(11)}}, 2);
+}
+
+uint8_t fz_machine_ephemerons(derrimas_finalizers *f, bool is_long, uint64_t from, fz_machine_some_links *some)
+{
+    (void)f;
+    return FILLED(noted("ephemerons %d" N, is_long, from), some, fz_machine_some_links, {{V(0), V(1)}, {V(10), V(11)}}, 2);
+}
+
+uint8_t fz_machine_key(derrimas_finalizers *f, uint64_t word, fz_machine_key_at *key)
+{
+    (void)f;
+    return FILLED(noted("key" N, word), key, fz_machine_key_at, V(0), V(0) % 2 == 1);
 }
 
 uint8_t fz_machine_registration(derrimas_finalizers *f, uint64_t object, fz_machine_registration_at *place)

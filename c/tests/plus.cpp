@@ -384,6 +384,47 @@ static void cleanups_of_finalizers()
     IS(refusal([&] { f.add_cleanup(0, fin::when::long_cleanup, 0, 0); }) == "Zero");
 }
 
+/* The words of an object behind its first two aren't followed, so they may be ephemerons. */
+struct heap_of_values : small_heap {
+    bool mark_value(std::uint64_t word)
+    {
+        const bool is_new = words[word] != 0 && !marked[words[word]];
+        mark(words[word]);
+        return is_new;
+    }
+};
+
+/* Word 66 of object 4 is the row of the key 3, and its value, object 5, leads to the key. */
+static void ephemerons_of_finalizers()
+{
+    fin f;
+    heap_of_values heap;
+    small_heap lacking;
+    std::vector<std::uint64_t> seen;
+    const auto passes = [&f, &heap](std::initializer_list<std::uint64_t> roots) {
+        heap.marked.assign(16, false);
+        for (std::uint64_t root : roots)
+            heap.mark(root);
+        f.pass(heap);
+    };
+
+    heap.words[66] = 5;
+    heap.words[80] = 3;
+    IS(f.ephemeron(fin::link_kind::long_link, 66, 3) == fin::link_answer::linked && f.ephemeron(fin::link_kind::short_link, 66, 3) == fin::link_answer::duplicate);
+    IS(f.key(66)->kind == fin::link_kind::short_link && f.key(66)->key == 3 && !f.key(67));
+    IS(refusal([&] { f.pass(lacking); }) == "BadOptions" && f.count().passes == 0);
+    passes({4, 3});
+    IS(heap.marked[5] && heap.words[66] == 5);
+    std::swap(heap.words[66], heap.words[67]);
+    IS(f.move_ephemeron(66, 67) == fin::link_answer::linked && f.move_ephemeron(66, 68) == fin::link_answer::not_found);
+    f.ephemerons(fin::link_kind::short_link, [&seen](const fin::linked &it) { seen.push_back(it.word + it.target); });
+    IS(seen == std::vector<std::uint64_t>({70}));
+    passes({4});
+    IS(!heap.marked[5] && !heap.marked[3] && heap.words[67] == 0 && f.count().short_ephemerons == 0);
+    IS(!f.end_ephemeron(67) && f.ephemeron(fin::link_kind::long_link, 67, 3) == fin::link_answer::linked && f.end_ephemeron(67));
+    IS(f.pass(lacking).picked == 0 && refusal([&] { f.ephemeron(fin::link_kind::short_link, 67, 0); }) == "Zero");
+}
+
 /* A host that throws, and a scope that is left: the pass is abandoned, and the next one is whole. */
 static void abandoned_passes()
 {
@@ -490,7 +531,7 @@ static void told_of_finalizers()
     f.trace(&trace);
     f.register_object(7, fin::kind::normal, 0, 0);
     f.dump([&](const char *line) { lines.push_back(line); });
-    IS(lines.size() == 4 && lines[0] == "registrations 1, short links 0, long links 0, cleanups 0");
+    IS(lines.size() == 4 && lines[0] == "registrations 1, short links 0, long links 0, cleanups 0, ephemerons 0");
     f.queue_all();
     f.invoke([](fin &, const fin::entry &) {});
     IS(told == std::vector<std::string>({"queued 0 1", "finished 7"}));
@@ -606,6 +647,7 @@ int main()
     regions_of_finalizers();
     calls_of_finalizers();
     cleanups_of_finalizers();
+    ephemerons_of_finalizers();
     abandoned_passes();
     memory_of_finalizers();
     told_of_finalizers();

@@ -69,11 +69,12 @@ static string shown(const counts &it) { return shown({it.passes, it.reclaimed, i
 static string shown(const finalizers::old &it) { return shown({it.proc, it.cd, it.was}); }
 static string shown(const finalizers::passed &it) { return shown({it.pass, it.picked}); }
 static string shown(const finalizers::linked &it) { return shown({it.word, it.target}); }
+static string shown(const finalizers::keyed &it) { return shown({static_cast<std::uint64_t>(it.kind), it.key}); }
 static string shown(const finalizers::entry &it) { return shown({it.seq, it.pass, it.reg, it.obj, it.proc, it.cd}); }
 static string shown(const finalizers::registered &it) { return shown({it.number, it.replaced.proc, it.replaced.cd, it.replaced.was}); }
 static string shown(const finalizers::counts &it)
 {
-    return shown({it.registrations, it.short_links, it.long_links, it.cleanups, it.waiting, it.held, it.queued, it.passes});
+    return shown({it.registrations, it.short_links, it.long_links, it.short_ephemerons, it.long_ephemerons, it.cleanups, it.waiting, it.held, it.queued, it.passes});
 }
 static string shown(const finalizers::registration &it)
 {
@@ -198,9 +199,10 @@ struct noting_host {
     bool holder_is_marked(std::uint64_t word) { return answer("holder_is_marked", word); }
 };
 
-/* The same, which also answers about regions. */
-struct noting_host_of_regions : noting_host {
+/* The same, which also answers about regions, and marks values. */
+struct whole_host : noting_host {
     std::uint64_t marks(std::uint64_t first) const { return answer("marks", first) + 10 * first; }
+    bool mark_value(std::uint64_t word) { return answer("mark_value", word); }
 };
 
 /* An allocator that notes its calls; one that `refuses` has no memory; and one that is `lacking` a function. */
@@ -237,11 +239,11 @@ static string reserved(finalizers &f, const arguments &a)
     return "done";
 }
 
-/* A pass by a host that lacks `marks` or has it, over finalizers that were opened with `marks` where the row says so. */
+/* A pass by a host that lacks `marks` and `mark_value` or has them, over finalizers that were opened with `marks` where the row says so. */
 static string pass_over(finalizers &f, const arguments &a)
 {
     finalizers own = a.words.size() > 1 ? opened_with(a.words[1]) : std::move(f);
-    return shown(a.is("lacking") ? own.pass(noting_host{false}) : own.pass(noting_host_of_regions{{a.is("throws")}}));
+    return shown(a.is("lacking") ? own.pass(noting_host{false}) : own.pass(whole_host{{a.is("throws")}}));
 }
 
 static string asked(finalizers &f, std::uint64_t answers)
@@ -420,6 +422,9 @@ static const std::map<string, member> members = {
     {"finalizers_link", SHOWN(f.finalizers.link(LINK_KIND, a.number(1), a.number(2)))},
     {"finalizers_unlink", SHOWN(f.finalizers.unlink(LINK_KIND, a.number(1)))},
     {"finalizers_move_link", SHOWN(f.finalizers.move_link(LINK_KIND, a.number(1), a.number(2)))},
+    {"finalizers_ephemeron", SHOWN(f.finalizers.ephemeron(LINK_KIND, a.number(1), a.number(2)))},
+    {"finalizers_end_ephemeron", SHOWN(f.finalizers.end_ephemeron(a.number(0)))},
+    {"finalizers_move_ephemeron", SHOWN(f.finalizers.move_ephemeron(a.number(0), a.number(1)))},
     {"finalizers_add_cleanup", SHOWN(a.is("default") ? f.finalizers.add_cleanup(a.number(1), finalizers::when::long_cleanup, a.number(2), a.number(3))
                                                      : f.finalizers.add_cleanup(a.number(1), a.kind(moments), a.number(2), a.number(3),
                                                                                 static_cast<std::uint8_t>(a.number(4))))},
@@ -440,6 +445,8 @@ static const std::map<string, member> members = {
     {"finalizers_roots", [](fixture &f, const arguments &a) { return walked([&](auto visit) { f.finalizers.roots(a.kind(sorts_of_roots), visit); }); }},
     {"finalizers_registrations", [](fixture &f, const arguments &) { return walked([&](auto visit) { f.finalizers.registrations(visit); }); }},
     {"finalizers_links", [](fixture &f, const arguments &a) { return walked([&](auto visit) { f.finalizers.links(LINK_KIND, visit); }); }},
+    {"finalizers_ephemerons", [](fixture &f, const arguments &a) { return walked([&](auto visit) { f.finalizers.ephemerons(LINK_KIND, visit); }); }},
+    {"finalizers_key", SHOWN(f.finalizers.key(a.number(0)))},
     {"finalizers_cleanups", [](fixture &f, const arguments &) { return walked([&](auto visit) { f.finalizers.cleanups(visit); }); }},
     {"finalizers_cleanup", SHOWN(f.finalizers.cleanup_of(a.number(0)))},
     {"finalizers_registration", SHOWN(f.finalizers.registration_of(a.number(0)))},

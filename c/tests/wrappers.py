@@ -78,6 +78,8 @@ def shown(result):
         return result.name.lower()
     if isinstance(result, over.Question):
         return f'{result.ask}:{",".join(map(str, result.what))}'
+    if isinstance(result, over.Keyed):
+        return f'{result.kind:d},{result.key}'
     if isinstance(result, tuple):
         return ','.join(f'{frame}:{slot}' for frame, slot in result)
     return ','.join(map(str, flat(result))) if hasattr(result, '_fields_') else str(int(result))
@@ -173,6 +175,9 @@ class Host:
     def marks(self, first):
         answer = self._answer(b'marks', first) + 10 * first
         return str(answer) if self.how == 'text' else answer
+
+    def mark_value(self, word):
+        return self._answer(b'mark_value', word)
 
     def allocate(self, size):
         LIBRARY.noted_memory(b'allocate', size)
@@ -274,15 +279,15 @@ def abandoned(finalizers, by_scope):
         return 'done' if by_scope else done(questions.abandon())
 
 
-class WithoutMarks(Host):
-    """The same without the answers about regions."""
-    marks = property()  # reading it raises AttributeError
+class Lacking(Host):
+    """The same without the answers about regions and values."""
+    marks = mark_value = property()  # reading it raises AttributeError
 
 
 def passed(finalizers, how, opened=None):
-    """What a pass did, by a host that may be `lacking` marks, over finalizers that may be opened with them."""
+    """What a pass did, by a host that may be `lacking` marks and mark_value, over finalizers that may be opened with them."""
     with opened_with(opened) if opened else contextlib.nullcontext(finalizers) as own:
-        return shown(own.run_pass(WithoutMarks('returns') if how == 'lacking' else Host(how)))
+        return shown(own.run_pass(Lacking('returns') if how == 'lacking' else Host(how)))
 
 
 def asked(finalizers, answers, then=None):
@@ -365,6 +370,9 @@ MEMBERS_OF_FINALIZERS = {
     'link': lambda *arguments: shown(with_kind(OVER.link)(*arguments)),
     'unlink': lambda *arguments: shown(with_kind(OVER.unlink)(*arguments)),
     'move_link': lambda *arguments: shown(with_kind(OVER.move_link)(*arguments)),
+    'ephemeron': lambda *arguments: shown(with_kind(OVER.ephemeron)(*arguments)),
+    'end_ephemeron': lambda it, word: shown(it.end_ephemeron(word)),
+    'move_ephemeron': lambda it, word, to: shown(it.move_ephemeron(word, to)),
     'add_cleanup': lambda *arguments: shown(with_kind(OVER.add_cleanup, name='when')(*arguments)),
     'cancel': lambda it, number: unregistered(it.cancel(number)),
     'begin': lambda it: abandoned(it, True),
@@ -383,6 +391,8 @@ MEMBERS_OF_FINALIZERS = {
     'roots': lambda it, sort: walked(it.roots(sort)),
     'registrations': lambda it: walked(it.registrations()),
     'links': lambda it, kind: walked(with_kind(OVER.links)(it, kind)),
+    'ephemerons': lambda it, kind: walked(with_kind(OVER.ephemerons)(it, kind)),
+    'key': lambda it, word: shown(it.key(word)),
     'cleanups': lambda it: walked(it.cleanups()),
     'cleanup': lambda it, number: shown(it.cleanup(number)),
     'registration': lambda it, object: shown(it.registration(object)),

@@ -134,6 +134,18 @@ static bool holder_is_marked(void *data, uint64_t word)
     return holder_of(word)->is_marked;
 }
 
+/* The word lies in an object that isn't scanned: so nothing else marks its value. */
+static bool mark_value(void *data, uint64_t word)
+{
+    own_heap *heap = data;
+    bool is_new;
+
+    mark_word(heap, holder_of(word)->words[word >> 48]);
+    is_new = heap->to_scan != NULL;
+    mark_on(heap);
+    return is_new;
+}
+
 /* ---- collections */
 
 /* The finalizers' own roots come in pieces of a buffer. */
@@ -149,7 +161,7 @@ static void mark_roots_of_finalizers(own_heap *heap, derrimas_finalizers_root so
 
 size_t own_heap_collect(own_heap *heap)
 {
-    static const derrimas_host host = {is_marked, mark_children, mark, mark_alone, clear, holder_is_marked, NULL};
+    static const derrimas_host host = {is_marked, mark_children, mark, mark_alone, clear, holder_is_marked, NULL, mark_value};
 
     for (size_t n = 0; n < heap->root_count; n++)
         mark_word(heap, heap->roots[n]);

@@ -5,8 +5,9 @@
  * set. So the heap follows each address that it meets, and asks nobody whether it is one. Nothing is collected but by
  * own_heap_collect.
  *
- * Registrations, links and cleanups are made by the library's calls on `finalizers`, with numbers by own_heap_number and
- * own_heap_word. Entries are taken by its calls too, or by own_heap_run. An object with cleanups and no finalizer is freed
+ * Registrations, links, ephemerons and cleanups are made by the library's calls on `finalizers`, with numbers by
+ * own_heap_number and own_heap_word. The word of an ephemeron lies in an object that isn't scanned; in another one it keeps
+ * its value whatever becomes of the key. Entries are taken by its calls too, or by own_heap_run. An object with cleanups and no finalizer is freed
  * by the collection that queues the long ones. */
 #ifndef OWN_HEAP_H
 #define OWN_HEAP_H
@@ -29,7 +30,7 @@ bool own_heap_open(own_heap *heap, size_t most, const uint64_t *roots, size_t ro
 /* Frees all. No finalizer runs. */
 void own_heap_close(own_heap *heap);
 
-/* Makes an object, whose words are 0. Those of one that isn't scanned keep nothing. NULL: there is no room, or no memory. */
+/* Makes an object, whose words are 0. Those of one that isn't scanned keep nothing, but for ephemerons. NULL: there is no room, or no memory. */
 uint64_t *own_heap_alloc(own_heap *heap, size_t words, bool is_scanned);
 
 /* Marks what the roots lead to, has the finalizers pass, and frees what isn't marked. Returns how many objects that is. */
@@ -44,7 +45,7 @@ derrimas_finalizers_code own_heap_why(own_heap *heap, const uint64_t *object, de
 /* How many words of an object, its first ones, may be links. */
 #define OWN_HEAP_LINK_WORDS 65536
 
-/* The numbers by which the library knows an object, and a word of it that may be a link: its object's address and its place, so that
+/* The numbers by which the library knows an object, and a word of it that may be a link or an ephemeron: its object's address and its place, so that
  * the heap needs no search for the object. An address has 48 bits. */
 static inline uint64_t own_heap_number(const uint64_t *object) { return (uint64_t)(uintptr_t)object; }
 static inline uint64_t own_heap_word(const uint64_t *object, uint64_t place) { return own_heap_number(object) | place << 48; }

@@ -14,7 +14,8 @@
 
 Objects, words, procedures and client data are numbers below 2^64, and ranks are below 256; of other numbers the lowest 64 or 8 bits count. The heap answers a
 pass by six methods: is_marked(object), mark_children(object, but_itself), mark(object), mark_alone(object), clear(word), holder_is_marked(word). Over
-Finalizers(marks=True) it has marks(first) too, the word of a region of objects. A refused call raises Refused, whose text is the library's sentence. Use
+Finalizers(marks=True) it has marks(first) too, the word of a region of objects, and with ephemerons mark_value(word), which returns whether something may
+have been marked. A refused call raises Refused, whose text is the library's sentence. Use
 Finalizers from one thread at a time. The library is libderrimas.so.1: that of the package, or the file that the variable DERRIMAS names."""
 from __future__ import annotations
 import contextlib, ctypes, enum
@@ -33,7 +34,7 @@ class Kind(enum.IntEnum):
 
 
 class LinkKind(enum.IntEnum):
-    """The kinds of links."""
+    """The kinds of links and of ephemerons."""
     SHORT, LONG = range(2)
 
 
@@ -43,7 +44,7 @@ class When(enum.IntEnum):
 
 
 class LinkAnswer(enum.IntEnum):
-    """The result of a call about a link."""
+    """The result of a call about a link or an ephemeron."""
     LINKED, DUPLICATE, NOT_FOUND = range(128, 131)
 
 
@@ -55,6 +56,7 @@ class Root(enum.IntEnum):
 class Ask(enum.IntEnum):
     """What a question asks of each of its objects, words or regions."""
     IS_MARKED, MARK_CHILDREN, MARK_OTHERS, MARK, MARK_ALONE, CLEAR, HOLDER_IS_MARKED, MARKS = range(1, 9)
+    MARK_VALUE = 10
 
 
 class Reason(enum.IntEnum):
@@ -92,15 +94,22 @@ Entry = struct("Entry", "An entry of the queue: its place, its pass, its registr
 Trace = struct("Trace", "What is told of what happens, in C.", ("queued", CFUNCTYPE(None, c_void_p, c_uint64, c_uint64)), ("cleared", CFUNCTYPE(None, c_void_p, c_uint64)),
                ("finished", CFUNCTYPE(None, c_void_p, POINTER(Entry))), ("data", c_void_p))
 Registration = struct("Registration", "A registration that stands; its kind is a Kind.", "object", "number", "proc", "cd", ("kind", c_uint32), ("rank", c_uint8))
-Linked = struct("Linked", "A link that stands: its word and its target.", "word", "target")
+Linked = struct("Linked", "A link that stands: its word and its target; or an ephemeron: its word and its key, as the target.", "word", "target")
 Cleanup = struct("Cleanup", "A cleanup that stands: `when` is a When.", "number", "object", "proc", "cd", ("when", c_uint32), ("rank", c_uint8))
-Counts = struct("Counts", "How many registrations, links, cleanups, waiting and held entries there are; how many entries and passes there ever were.",
-                "registrations", "short_links", "long_links", "cleanups", "waiting", "held", "queued", "passes")
+Counts = struct("Counts", "How many registrations, links, ephemerons, cleanups, waiting and held entries there are; how many entries and passes there ever were.",
+                "registrations", "short_links", "long_links", "short_ephemerons", "long_ephemerons", "cleanups", "waiting", "held", "queued", "passes")
 Passed = struct("Passed", "What a pass did: its number, and the entries that it queued.", "number", "picked")
 CWhy = struct("CWhy", "Why an object isn't finalized, in C.", ("reason", c_uint32), ("root", c_uint32), "number", ("entry", Entry), ("length", c_size_t))
 Paths = struct("Paths", "How a host lists its heap, in C.", ("child", CHILD), ("root", ROOT), ("is_object", IS_OBJECT))
 CQuestion = struct("CQuestion", "A question, in C.", ("what", c_uint64 * BATCH), "count", ("ask", c_uint32), ("marks", c_uint64 * BATCH))
 Answers = Union[int, List[int]]
+
+
+class Keyed(NamedTuple):
+    """The ephemeron of a word: its kind and its key."""
+
+    kind: LinkKind
+    key: int
 
 
 class Why(NamedTuple):
@@ -127,6 +136,8 @@ def library() -> ctypes.CDLL:
     for name, types in {
         "open": [POINTER(Options)], "reserve": [n, n, n], "shrink": [], "register": [n, kind, n, n, c_uint8, POINTER(n), POINTER(Old)],
         "unregister": [n, POINTER(Old)], "link": [kind, n, n, POINTER(kind)], "unlink": [kind, n, POINTER(c_bool)], "move_link": [kind, n, n, POINTER(kind)],
+        "ephemeron": [kind, n, n, POINTER(kind)], "end_ephemeron": [n, POINTER(c_bool)], "move_ephemeron": [n, n, POINTER(kind)],
+        "key": [n, POINTER(kind), POINTER(n)], "ephemerons": [kind, *walk],
         "add_cleanup": [n, kind, n, n, c_uint8, POINTER(n)], "cancel": [n, POINTER(Old)], "queue_cleanups": [POINTER(n)], "cleanups": walk,
         "cleanup": [n, POINTER(Cleanup)], "begin": [], "next": [n, POINTER(CQuestion), POINTER(Passed)], "abandon": [], "queue_all": [POINTER(n)], "take": [POINTER(Entry)],
         "take_finished": [POINTER(Entry)], "finish": [POINTER(Entry)], "roots": [kind, *walk], "registrations": walk, "links": [kind, *walk],
@@ -250,6 +261,18 @@ class Finalizers:
         """Moves a link from the word to the word `to`."""
         return LinkAnswer(self._answer(c_uint32, "move_link", kind, word, to))
 
+    def ephemeron(self, word: int, key: int, kind: LinkKind = LinkKind.SHORT) -> LinkAnswer:
+        """Makes the word an ephemeron of the key: DUPLICATE if it was one, of either kind."""
+        return LinkAnswer(self._answer(c_uint32, "ephemeron", kind, word, key))
+
+    def end_ephemeron(self, word: int) -> bool:
+        """Ends the ephemeron of the word, and returns whether there was one."""
+        return self._answer(c_bool, "end_ephemeron", word)
+
+    def move_ephemeron(self, word: int, to: int) -> LinkAnswer:
+        """Moves an ephemeron from the word to the word `to`."""
+        return LinkAnswer(self._answer(c_uint32, "move_ephemeron", word, to))
+
     def add_cleanup(self, object: int, proc: int, cd: int = 0, rank: int = 0, when: When = When.LONG) -> int:
         """Adds a cleanup to the object, and returns its number. Its entry comes when the object is lost, with that number and without the object."""
         return self._answer(c_uint64, "add_cleanup", object, when, proc, cd, rank)
@@ -264,14 +287,19 @@ class Finalizers:
 
     def run_pass(self, host: Any) -> Passed:
         """A whole pass, which the methods of the host answer. Where one raises, or a hook does before the end, the pass is abandoned: reclaim nothing before
-        the next one has ended. Finalizers that ask about regions refuse a host without `marks`, as BadOptions."""
-        if self.handle.asks_marks and not hasattr(host, "marks"):
+        the next one has ended. Finalizers that ask about regions refuse a host without `marks`, and those with ephemerons one without `mark_value`, as
+        BadOptions."""
+        if (self.handle.asks_marks and not hasattr(host, "marks")) or (not hasattr(host, "mark_value") and self._has_ephemerons()):
             raise Refused(BAD_OPTIONS)
         with self.open_pass() as questions:
             question = questions.next()
             while question:
                 question = questions.next(answers_of(host, question))
             return questions.did
+
+    def _has_ephemerons(self) -> bool:
+        counts = Counts()
+        return not LIBRARY.derrimas_finalizers_count(byref(self.handle), byref(counts)) and counts.short_ephemerons + counts.long_ephemerons > 0
 
     def why(self, object: int, host: Any) -> Why:
         """Why an object isn't finalized, by the methods of the host: children(object) yields for each of its words the word's number, or 0, and the object to
@@ -377,6 +405,10 @@ class Finalizers:
         """The links of a kind."""
         return self._walk(Linked, "links", kind)
 
+    def ephemerons(self, kind: LinkKind = LinkKind.SHORT) -> Iterator[Linked]:
+        """The ephemerons of a kind."""
+        return self._walk(Linked, "ephemerons", kind)
+
     def cleanups(self) -> Iterator[Cleanup]:
         """The cleanups."""
         return self._walk(Cleanup, "cleanups")
@@ -392,6 +424,12 @@ class Finalizers:
     def target(self, word: int, kind: LinkKind = LinkKind.SHORT) -> Optional[int]:
         """The target of the link at the word, or None."""
         return self._or_none(c_uint64, "target", kind, word)
+
+    def key(self, word: int) -> Optional[Keyed]:
+        """The kind and the key of the word's ephemeron, or None."""
+        kind = c_uint32()
+        key = self._or_none(c_uint64, "key", word, byref(kind))
+        return None if key is None else Keyed(LinkKind(kind.value), key)
 
     def unfinished(self, start: int = 0) -> Optional[Entry]:
         """The first entry from this place in the queue on that isn't finished, or None."""
@@ -496,8 +534,8 @@ def answers_of(host: Any, question: Question) -> Answers:
     to be done has none."""
     if question.ask == Ask.MARKS:
         return [host.marks(first) for first in question.what]
-    if question.ask in (Ask.IS_MARKED, Ask.HOLDER_IS_MARKED):
-        asked = host.is_marked if question.ask == Ask.IS_MARKED else host.holder_is_marked
+    if question.ask in (Ask.IS_MARKED, Ask.HOLDER_IS_MARKED, Ask.MARK_VALUE):
+        asked = getattr(host, {Ask.IS_MARKED: "is_marked", Ask.HOLDER_IS_MARKED: "holder_is_marked"}.get(question.ask, "mark_value"))
         return sum(bool(asked(what)) << n for n, what in enumerate(question.what))
     for what in question.what:
         if question.ask in (Ask.MARK_CHILDREN, Ask.MARK_OTHERS):

@@ -9,8 +9,9 @@ use Rattle.fz_model.specs.declared.kinds.LinkKind.{LinkKind}
 use Rattle.fz_finalizers.specs.declared.cleanups.Attached.{Attached}
 use Rattle.fz_finalizers.specs.declared.kinds.Kind.{Kind}
 use Rattle.fz_finalizers.specs.declared.roots.Root.{Root}
-use Rattle.fz_finalizers.specs.States.{State, View, kind_at, links_of}
-use Rattle.fz_finalizers.specs.Walks.{AreCleanups, AreLinks, AreRegistrations, IsRest, YieldsRoots, links_in_order, registrations_in_order, roots_of, somes}
+use Rattle.fz_model.specs.State.{Map}
+use Rattle.fz_finalizers.specs.States.{State, View, kind_at}
+use Rattle.fz_finalizers.specs.Walks.{AreCleanups, AreRegistrations, IsRest, YieldsRoots, registrations_in_order, roots_of, somes}
 use Rattle.fz_finalizers.proofs.Shown.{rest_place}
 use Rattle.fz_machine.specs.declared.refused.Refused.{Refused}
 use Rattle.fz_machine.specs.Machines.{Machine}
@@ -23,7 +24,7 @@ use Rattle.fz_c.specs.declared.machine.walks.Cleanups.{Cleanups}
 use Rattle.fz_c.specs.declared.machine.walks.Links.{Links}
 use Rattle.fz_c.specs.declared.machine.walks.Registrations.{Registrations}
 use Rattle.fz_c.specs.MachineCodes.{Answers, Behind}
-use Rattle.fz_c.specs.MachineShows.{ShowsCleanups, ShowsFrom, ShowsLinks, ShowsRegistrations, ShowsRoots, cleanup_told, kind_number, link_told, registration_told}
+use Rattle.fz_c.specs.MachineShows.{AreEntries, ShowsCleanups, ShowsFrom, ShowsRegistrations, ShowsRoots, ShowsTable, cleanup_told, kind_number, link_told, registration_told}
 
 -- what a walk of the finalizers behind the handle yields is their list
 rooted : (r root : Root) (w v : View) (words : List (Option ℕ)) → r ≡ root → w ≡ v → YieldsRoots r w.state (somes words) → words ≡ roots_of r w → YieldsRoots root v.state (somes (roots_of root v)) × (words ≡ roots_of root v)
@@ -115,26 +116,26 @@ module _ (w v : View) (all left : List (ℕ × answers.Registration)) (from n : 
       subst (λ (u : View). ShowsRegistrations u from OK old told) same
       (are_registered, some_left PART (λ (t : Registrations). t.count) (λ (t : Registrations). t.registrations) (map tell (registrations_in_order w)) (map tell left) from n (omega arith) registered_left registered_count old told some is filled)
 
--- a walk over links as the finalizers behind the handle yield it
-module _ (k kind : LinkKind) (w v : View) (all left : List (ℕ × ℕ)) (from n : ℕ) (is : k ≡ kind) (same : w ≡ v) (whole : from_entries all ≡ links_of w.state k) (once : IsDistinct nat_eq (keys_of all)) (listed : all ≡ links_in_order w k) (from_there : left ≡ drop from all) (counted : n ≡ min PART (length left)) where
-  are_linked : AreLinks w.state k (links_in_order w k)
-  are_linked = subst (AreLinks w.state k) listed (whole, once)
+-- a walk over links or ephemerons as the finalizers behind the handle yield it
+module _ (table : View → LinkKind → Map ℕ) (in_order : View → LinkKind → List (ℕ × ℕ)) (k kind : LinkKind) (w v : View) (all left : List (ℕ × ℕ)) (from n : ℕ) (is : k ≡ kind) (same : w ≡ v) (whole : from_entries all ≡ table w k) (once : IsDistinct nat_eq (keys_of all)) (listed : all ≡ in_order w k) (from_there : left ≡ drop from all) (counted : n ≡ min PART (length left)) where
+  are_linked : AreEntries (table w k) (in_order w k)
+  are_linked = subst (AreEntries (table w k)) listed (whole, once)
 
-  linked_left : map link_told left ≡ drop from (map link_told (links_in_order w k))
-  linked_left = ap (map link_told) (from_there ∙ ap (drop from) listed) ∙ sym (drop-map link_told from (links_in_order w k))
+  linked_left : map link_told left ≡ drop from (map link_told (in_order w k))
+  linked_left = ap (map link_told) (from_there ∙ ap (drop from) listed) ∙ sym (drop-map link_told from (in_order w k))
 
   linked_count : n ≡ min PART (length (map link_told left))
   linked_count = counted ∙ ap (min PART) (sym (length-map left link_told))
 
-  pub none_linked : (old : Links) → n ≡ 0 → ShowsLinks kind v from EMPTY old old
+  pub none_linked : (old : Links) → n ≡ 0 → ShowsTable (table v kind) (in_order v kind) from EMPTY old old
   none_linked old none =
-      subst (λ (u : View). ShowsLinks kind u from EMPTY old old) same
-      (subst (λ (q : LinkKind). ShowsLinks q w from EMPTY old old) is (are_linked, none_left PART (λ (t : Links). t.count) (λ (t : Links). t.links) (map link_told (links_in_order w k)) (map link_told left) from n (omega arith) linked_left linked_count old none))
+      subst (λ (u : View). ShowsTable (table u kind) (in_order u kind) from EMPTY old old) same
+      (subst (λ (q : LinkKind). ShowsTable (table w q) (in_order w q) from EMPTY old old) is (are_linked, none_left PART (λ (t : Links). t.count) (λ (t : Links). t.links) (map link_told (in_order w k)) (map link_told left) from n (omega arith) linked_left linked_count old none))
 
-  pub some_linked : (old told : Links) → n ≢ 0 → told.count ≡ n → take n told.links ≡ take n (map link_told left) → ShowsLinks kind v from OK old told
+  pub some_linked : (old told : Links) → n ≢ 0 → told.count ≡ n → take n told.links ≡ take n (map link_told left) → ShowsTable (table v kind) (in_order v kind) from OK old told
   some_linked old told some told_count filled =
-      subst (λ (u : View). ShowsLinks kind u from OK old told) same
-      (subst (λ (q : LinkKind). ShowsLinks q w from OK old told) is (are_linked, some_left PART (λ (t : Links). t.count) (λ (t : Links). t.links) (map link_told (links_in_order w k)) (map link_told left) from n (omega arith) linked_left linked_count old told some told_count filled))
+      subst (λ (u : View). ShowsTable (table u kind) (in_order u kind) from OK old told) same
+      (subst (λ (q : LinkKind). ShowsTable (table w q) (in_order w q) from OK old told) is (are_linked, some_left PART (λ (t : Links). t.count) (λ (t : Links). t.links) (map link_told (in_order w k)) (map link_told left) from n (omega arith) linked_left linked_count old told some told_count filled))
 
 -- a walk over cleanups as the finalizers behind the handle yield it
 module _ (w v : View) (all left : List (ℕ × Attached)) (from n : ℕ) (same : w ≡ v) (are : AreCleanups w.state all) (listed : all ≡ w.order.cleanups) (from_there : left ≡ drop from all) (counted : n ≡ min PART (length left)) where

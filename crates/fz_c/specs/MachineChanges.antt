@@ -1,6 +1,6 @@
 -- What a change does to the finalizers behind a handle, the code that it returns, and what C gets.
--- code: fz_c/src/machine/registering.rt, linking.rt, adding.rt, passing.rt
-use Rattle.std.specs.Prelude.{◌≡◌, ◌⊎◌, ℕ, ◌+◌, ◌≤◌, Bool, [], length, None, option_map}
+-- code: fz_c/src/machine/registering.rt, linking.rt, keying.rt, adding.rt, passing.rt
+use Rattle.std.specs.Prelude.{◌≡◌, ◌⊎◌, ℕ, ◌+◌, ◌≤◌, Bool, [], length, None, is_some, option_map}
 use Rattle.std.specs.FinMap.{get, len, contains_key, empty}
 use Rattle.fz_model.specs.declared.answers.Entry.{Entry}
 use Rattle.std.specs.FinSet.{contains}
@@ -8,8 +8,10 @@ use Rattle.fz_model.specs.Steps.{move_answer, old_of}
 use Rattle.fz_finalizers.specs.declared.cleanups.Cleanup.{Cleanup}
 use Rattle.fz_finalizers.specs.declared.kinds.Finalizer.{Finalizer}
 use Rattle.fz_finalizers.specs.Causes.{add_causes, register_causes, link_causes, move_causes, finish_causes}
-use Rattle.fz_finalizers.specs.Follows.{Follows, Register, Unregister, Link, Unlink, Move, AddCleanup, Cancel, QueueAll, Finish}
+use Rattle.fz_finalizers.specs.Follows.{Follows, Register, Unregister, Link, Unlink, Move, Ephemeron, EndEphemeron, MoveEphemeron, AddCleanup, Cancel, QueueAll, Finish}
 use Rattle.fz_pass.specs.All as passes
+use Rattle.fz_pass.specs.Keyed as keyed
+use Rattle.fz_pass.specs.Keyed.{ephemeron_at, has_ephemeron, of_kind}
 use Rattle.fz_finalizers.specs.Passed.{CleansAll}
 use Rattle.fz_finalizers.specs.States.{HasRooms, KeepsTables, links_of, room_of}
 use Rattle.fz_machine.specs.Causes.{first_of}
@@ -69,6 +71,26 @@ MovesLink is_long word to code old told m n =
     Answers (first_of m.phase (move_causes to)) code
     (Follows m.finalizers.state (Move (link_kind_of is_long) word to) n.finalizers.state
     × (told ≡ move_number (move_answer (links_of m.finalizers.state (link_kind_of is_long)) word to)))
+    (Stays m n × (told ≡ old))
+
+-- only an ephemeron that is new, or changes its kind, can lack memory
+abbrev pub MakesEphemeron : Bool → ℕ → ℕ → ℕ → ℕ → ℕ → Machine → Machine → Type 0
+MakesEphemeron is_long word key code old told m n =
+    AnswersOrLacks (first_of m.phase (link_causes (of_kind m.finalizers.ephemerons (link_kind_of is_long)) word key)) code
+    (Follows m.finalizers.state (Ephemeron (link_kind_of is_long) word key) n.finalizers.state × (told ≡ link_number (has_ephemeron m.finalizers.ephemerons word)))
+    (Stays m n × (told ≡ old))
+    (get (of_kind m.finalizers.ephemerons (link_kind_of is_long)) word ≡ None)
+
+abbrev pub EndsEphemeron : ℕ → ℕ → Bool → Bool → Machine → Machine → Type 0
+EndsEphemeron word code old told m n =
+    Answers (first_of m.phase []) code
+    (Follows m.finalizers.state (EndEphemeron word) n.finalizers.state × (told ≡ is_some (ephemeron_at m.finalizers.ephemerons word)))
+    ((n ≡ m) × (told ≡ old))
+
+abbrev pub MovesEphemeron : ℕ → ℕ → ℕ → ℕ → ℕ → Machine → Machine → Type 0
+MovesEphemeron word to code old told m n =
+    Answers (first_of m.phase (move_causes to)) code
+    (Follows m.finalizers.state (MoveEphemeron word to) n.finalizers.state × (told ≡ move_number (keyed.move_answer m.finalizers.ephemerons word to)))
     (Stays m n × (told ≡ old))
 
 -- there is no room in the table or in the list

@@ -6,6 +6,7 @@ mod asking;
 mod codes;
 mod entries;
 mod handle;
+mod keying;
 mod linking;
 mod opening;
 mod passing;
@@ -24,6 +25,7 @@ pub use entries::{
     HostEntry, fz_machine_finish, fz_machine_take, fz_machine_take_finished, fz_machine_unfinished,
 };
 pub use handle::MachineHandle;
+pub use keying::{fz_machine_end_ephemeron, fz_machine_ephemeron, fz_machine_move_ephemeron};
 pub use linking::{fz_machine_link, fz_machine_move_link, fz_machine_unlink};
 pub use opening::{fz_machine_destroy, fz_machine_open, fz_machine_reserve, fz_machine_shrink};
 pub use passing::{
@@ -33,8 +35,8 @@ pub use passing::{
 pub use registering::{Registered, fz_machine_register, fz_machine_unregister};
 pub use session::MachineSession;
 pub use shown::{
-    CleanupAt, Counts, RegistrationAt, Words, fz_machine_cleanup, fz_machine_count,
-    fz_machine_registration, fz_machine_roots, fz_machine_target,
+    CleanupAt, Counts, KeyAt, RegistrationAt, Words, fz_machine_cleanup, fz_machine_count,
+    fz_machine_key, fz_machine_registration, fz_machine_roots, fz_machine_target,
 };
 pub use snapshot::{
     SnapshotHandle, SnapshotSession, fz_snapshot_destroy, fz_snapshot_holder, fz_snapshot_object,
@@ -42,6 +44,6 @@ pub use snapshot::{
 };
 pub use stuck::fz_machine_stuck;
 pub use walks::{
-    Cleanups, Linked, Links, Registrations, fz_machine_cleanups, fz_machine_links,
-    fz_machine_registrations,
+    Cleanups, Linked, Links, Registrations, fz_machine_cleanups, fz_machine_ephemerons,
+    fz_machine_links, fz_machine_registrations,
 };

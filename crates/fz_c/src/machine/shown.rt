@@ -3,7 +3,7 @@
 ghost use Rattle.std.specs.Prelude.{◌≡◌};
 ghost use Rattle.fz_finalizers.specs.States.{links_of};
 ghost use Rattle.fz_c.specs.MachineCodes.{Behind};
-ghost use Rattle.fz_c.specs.MachineShows.{IsCounted, ShowsCleanup, ShowsRegistration, ShowsRoots, ShowsTarget, cleanup_told, is_long, kind_number, root_of};
+ghost use Rattle.fz_c.specs.MachineShows.{IsCounted, ShowsCleanup, ShowsKey, ShowsRegistration, ShowsRoots, ShowsTarget, cleanup_told, is_long, key_told, kind_number, root_of};
 ghost use Rattle.fz_c.specs.Values.{link_kind_of};
 
 use crate::handle::behind;
@@ -25,13 +25,15 @@ pub struct Words {
     pub next: u64,
 }
 
-/// The number of registrations, links, cleanups and entries.
+/// The number of registrations, links, ephemerons, cleanups and entries.
 #[repr(C)]
 #[derive(Clone, Copy)]
 pub struct Counts {
     pub registrations: u64,
     pub short_links: u64,
     pub long_links: u64,
+    pub short_ephemerons: u64,
+    pub long_ephemerons: u64,
     pub cleanups: u64,
     pub waiting: u64,
     pub held: u64,
@@ -99,7 +101,27 @@ impl CleanupAt {
     }
 }
 
-/// Whether a cleanup is due only when nothing retains its object.
+/// The key of a word's ephemeron, and its kind.
+#[repr(C)]
+#[derive(Clone, Copy)]
+pub struct KeyAt {
+    pub key: u64,
+    pub is_long: bool,
+}
+
+impl KeyAt {
+    /// An ephemeron's kind and key, as C represents them.
+    pub(crate) fn of(kind: LinkKind, key: u64) -> KeyAt
+        ensures { result ≡ key_told (kind, key) }
+    {
+        KeyAt {
+            key,
+            is_long: is_long(kind),
+        }
+    }
+}
+
+/// Whether the kind is long.
 fn is_long(when: LinkKind) -> bool
     ensures { result ≡ is_long when }
 {
@@ -171,6 +193,8 @@ fn counts_of(shown: &Finalizers) -> Counts
         registrations: shown.registrations(),
         short_links: shown.links(LinkKind::Short),
         long_links: shown.links(LinkKind::Long),
+        short_ephemerons: shown.iter_ephemerons(LinkKind::Short).len() as u64,
+        long_ephemerons: shown.iter_ephemerons(LinkKind::Long).len() as u64,
         cleanups: shown.cleanups(),
         waiting: shown.waiting(),
         held: shown.held(),
@@ -238,6 +262,29 @@ pub extern "C" fn fz_machine_cleanup(
         return EMPTY;
     };
     *cleanup = CleanupAt::of(number, shown);
+    OK
+}
+
+/// `Finalizers::key`.
+#[unsafe(no_mangle)]
+pub extern "C" fn fz_machine_key(
+    alloc: Global,
+    finalizers: &mut MachineHandle,
+    word: u64,
+    key: &mut KeyAt,
+) -> Code
+    ensures { Behind finalizers.old.value finalizers.new.value result (key.new ≡ key.old) (λ m n. (n ≡ m) × ShowsKey m.finalizers.state word result key.old key.new) }
+{
+    let found = behind!(
+        alloc,
+        finalizers,
+        NOT_OPEN,
+        |it| it.machine.finalizers().key(word)
+    );
+    let Some((kind, object)) = found else {
+        return EMPTY;
+    };
+    *key = KeyAt::of(kind, object);
     OK
 }
 

@@ -1,8 +1,8 @@
-//! Iterating over registrations, links and cleanups, a buffer at a time. This changes nothing, and works while a pass is open.
+//! Iterating over registrations, links, ephemerons and cleanups, a buffer at a time. This changes nothing, and works while a pass is open.
 
 ghost use Rattle.std.specs.Prelude.{◌≡◌, ◌≤◌, ◌<◌, ◌+◌, length, map, min, take};
 ghost use Rattle.fz_c.specs.MachineCodes.{Behind};
-ghost use Rattle.fz_c.specs.MachineShows.{ShowsCleanups, ShowsLinks, ShowsRegistrations, cleanup_told, link_told, registration_told};
+ghost use Rattle.fz_c.specs.MachineShows.{ShowsCleanups, ShowsEphemerons, ShowsLinks, ShowsRegistrations, cleanup_told, link_told, registration_told};
 ghost use Rattle.fz_c.specs.Values.{link_kind_of};
 
 use crate::handle::behind;
@@ -14,7 +14,7 @@ use fz_finalizers::{Attached, Finalizers};
 use fz_table::Pairs;
 use std::alloc::Global;
 
-/// The size of the buffers of registrations, links and cleanups, which one call fills.
+/// The size of the buffers of registrations, links, ephemerons and cleanups, which one call fills.
 const PART: usize = 64;
 
 /// The registrations of an iteration, and their number.
@@ -25,7 +25,7 @@ pub struct Registrations {
     pub count: u64,
 }
 
-/// A link.
+/// A link; or an ephemeron, whose target is its key.
 #[repr(C)]
 #[derive(Clone, Copy)]
 pub struct Linked {
@@ -33,7 +33,7 @@ pub struct Linked {
     pub target: u64,
 }
 
-/// The links of an iteration, and their number.
+/// The links or ephemerons of an iteration, and their number.
 #[repr(C)]
 #[derive(Clone, Copy)]
 pub struct Links {
@@ -93,7 +93,7 @@ fn fill_registrations(
     filled
 }
 
-/// Writes the next links into the buffer, as many as fit or remain. Returns their number.
+/// Writes the next links or ephemerons into the buffer, as many as fit or remain. Returns their number.
 fn fill_links(walk: Pairs<'_, u64, u64>, buffer: &mut [Linked]) -> usize
     ensures count { result ≡ min (length buffer.old) (length walk.entry) }
     ensures filled { take result buffer.new ≡ take result (map link_told walk.entry) }
@@ -176,6 +176,34 @@ pub extern "C" fn fz_machine_links(
         return EMPTY;
     }
     *links = Links {
+        links: found,
+        count: count as u64,
+    };
+    OK
+}
+
+/// `Finalizers::iter_ephemerons`: the ephemerons of the iteration from an index on, as many as fit. Takes the same time at each index.
+#[unsafe(no_mangle)]
+pub extern "C" fn fz_machine_ephemerons(
+    alloc: Global,
+    finalizers: &mut MachineHandle,
+    is_long: bool,
+    from: u64,
+    ephemerons: &mut Links,
+) -> Code
+    ensures { Behind finalizers.old.value finalizers.new.value result (ephemerons.new ≡ ephemerons.old) (λ m n. (n ≡ m) × ShowsEphemerons (link_kind_of is_long) m.finalizers from result ephemerons.old ephemerons.new) }
+{
+    let mut found = [NO_LINK; PART];
+    let count = behind!(alloc, finalizers, NOT_OPEN, |it| {
+        let shown = it.machine.finalizers();
+        let all = shown.iter_ephemerons(kind_for(is_long));
+        let left = all.from_place(from as usize);
+        fill_links(left, &mut found)
+    });
+    if count == 0 {
+        return EMPTY;
+    }
+    *ephemerons = Links {
         links: found,
         count: count as u64,
     };

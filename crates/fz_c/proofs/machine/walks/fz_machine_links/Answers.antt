@@ -1,4 +1,6 @@
 use Rattle.std.proofs.Common.{◌∙◌, refl, ap}
+use Rattle.fz_finalizers.specs.States.{View, links_of}
+use Rattle.fz_finalizers.specs.Walks.{links_in_order}
 use Rattle.fz_machine.specs.Machines.{Machine}
 use Rattle.fz_c.proofs.Rooted.{behind, none_linked, some_linked}
 use Rattle.fz_c.proofs.machine.walks.fz_machine_links.Goals as goal
@@ -7,10 +9,10 @@ pub returns-then-count-eq0 : goal.returns-then-count-eq0
 returns-then-count-eq0 c =
     let same = c.finalizers-shown.ensures ∙ ap (λ (k : Machine). k.finalizers) (c.behind-it.view_is ∙ c.deref.ensures) in
     behind _ _ c.in-Some.it.value _ _ _ c.in-Some.ensures.taken c.put.ensures
-    (refl, none_linked _ _ _ _ _ _ _ _ c.kind_for.ensures same c.iter_links.ensures.all c.iter_links.ensures.once c.iter_links.ensures.order c.from_place-left.ensures c.fill_links-reply.ensures.count c.args.links.now c.if-count-eq0.true)
+    (refl, none_linked (λ (v : View). links_of v.state) links_in_order _ _ _ _ _ _ _ _ c.kind_for.ensures same c.iter_links.ensures.all c.iter_links.ensures.once c.iter_links.ensures.order c.from_place-left.ensures c.fill_links-reply.ensures.count c.args.links.now c.if-count-eq0.true)
 
 pub returns : goal.returns
 returns c =
     let same = c.finalizers-shown.ensures ∙ ap (λ (k : Machine). k.finalizers) (c.behind-it.view_is ∙ c.deref.ensures) in
     behind _ _ c.in-Some.it.value _ _ _ c.in-Some.ensures.taken c.put.ensures
-    (refl, some_linked _ _ _ _ _ _ _ _ c.kind_for.ensures same c.iter_links.ensures.all c.iter_links.ensures.once c.iter_links.ensures.order c.from_place-left.ensures c.fill_links-reply.ensures.count c.args.links.now _ c.if-count-eq0.false refl c.fill_links-reply.ensures.filled)
+    (refl, some_linked (λ (v : View). links_of v.state) links_in_order _ _ _ _ _ _ _ _ c.kind_for.ensures same c.iter_links.ensures.all c.iter_links.ensures.once c.iter_links.ensures.order c.from_place-left.ensures c.fill_links-reply.ensures.count c.args.links.now _ c.if-count-eq0.false refl c.fill_links-reply.ensures.filled)

@@ -1,0 +1,209 @@
+/* ephemerons: those of gc_ephemeron.h, over the replaced library alone. A weak table whose values lead to their keys keeps all of its rows as a table of links, and those
+ * alone whose keys are used otherwise as one of ephemerons. Rows of chains, of lost tables, and of keys with finalizers; words that move, and words outside the heap.
+ */
+#include "graph.h"
+#include "gc_ephemeron.h"
+
+enum { ROWS = 20000, USED = 10, FEW = 100 };
+
+static unsigned wrong, came;
+static void **keys, **values, **tables; /* words that bdwgc doesn't scan; words of tables that it does */
+static void ***used, **watched;         /* the keys that are used, which it does; and a long link to each value */
+
+static void tell(const char *name, unsigned found, unsigned wanted)
+{
+    printf("%s: %s, wrong %u\n", name, found + FEW < wanted ? "too few" : found > wanted ? "too many" : "enough", wrong);
+}
+
+static void must(bool right)
+{
+    if (!right)
+        fail("a call");
+}
+
+/* A number that something else has to keep. */
+APART static uintptr_t *boxed(uintptr_t n)
+{
+    uintptr_t *box = GC_MALLOC_ATOMIC(2 * sizeof(void *));
+
+    *box = n;
+    return box;
+}
+
+/* A row: the value leads to its key, and to its number. One in ten keys is used. */
+APART static void make_row(uintptr_t n, bool is_ephemeron)
+{
+    void **key = GC_MALLOC(2 * sizeof(void *)), **value = GC_MALLOC(2 * sizeof(void *));
+
+    value[0] = key;
+    value[1] = boxed(n);
+    used[n] = n % USED == 0 ? key : NULL;
+    keys[n] = key;
+    must(GC_general_register_disappearing_link(&keys[n], key) != GC_NO_MEMORY); /* the word may have a link of the table before */
+    if (is_ephemeron)
+        must(GC_register_ephemeron((void **)&values[n], key) == GC_SUCCESS);
+    (is_ephemeron ? values : tables)[n] = value;
+}
+
+/* How many rows are gone: both words are, or neither. What is left is as it was. */
+static unsigned lost_rows(void **of)
+{
+    unsigned lost = 0;
+
+    for (uintptr_t n = 0; n < ROWS; n++) {
+        const void **value = of[n];
+
+        wrong += used[n] && !keys[n];
+        wrong += of == values && !keys[n] != !value;
+        wrong += value && keys[n] && (value[0] != keys[n] || *(const uintptr_t *)value[1] != n);
+        lost += !keys[n];
+    }
+    return lost;
+}
+
+static void fill(bool is_ephemeron)
+{
+    for (uintptr_t n = 0; n < ROWS; n++)
+        make_row(n, is_ephemeron);
+}
+
+static void weak_tables(void)
+{
+    fill(false);
+    collect();
+    tell("rows of a table of links that stay", ROWS - lost_rows(tables), ROWS);
+    memset(tables, 0, ROWS * sizeof *tables);
+    fill(true);
+    collect();
+    for (uintptr_t n = 0; n < 2 * ROWS; n++)
+        (void)boxed(ROWS); /* where numbers were that nothing kept */
+    tell("rows of a table of ephemerons that go", lost_rows(values), ROWS - ROWS / USED);
+    memset(used, 0, ROWS * sizeof *used);
+    collect();
+    tell("rows that go with the last keys", lost_rows(values), ROWS);
+}
+
+/* The value of each row is the key of the row before it; the key of the last one is used. */
+APART static void make_chain(void)
+{
+    void **before = GC_MALLOC(2 * sizeof(void *));
+
+    used[0] = before;
+    for (uintptr_t n = FEW; n-- > 0;) {
+        void **value = GC_MALLOC(2 * sizeof(void *));
+
+        values[n] = watched[n] = value;
+        must(GC_register_ephemeron(&values[n], before) == GC_SUCCESS);
+        must(GC_register_long_link(&watched[n], value) == GC_SUCCESS);
+        before = value;
+    }
+}
+
+static unsigned count(void **of, unsigned most)
+{
+    unsigned there = 0;
+
+    for (unsigned n = 0; n < most; n++)
+        there += of[n] != NULL;
+    return there;
+}
+
+static void chains(void)
+{
+    make_chain();
+    collect();
+    wrong += count(values, FEW) != FEW || count(watched, FEW) != FEW;
+    used[0] = NULL;
+    collect();
+    collect();
+    wrong += count(values, FEW) > FEW / 2 || count(watched, FEW) > FEW / 2; /* the stack may keep some */
+    tell("a chain of rows", FEW, FEW);
+    memset(values, 0, FEW * sizeof *values);
+}
+
+/* Tables that are lost themselves, of keys that are used. */
+APART static void make_lost_tables(void)
+{
+    used[0] = GC_MALLOC(2 * sizeof(void *));
+    for (uintptr_t n = 0; n < ROWS; n++) {
+        void **table = GC_MALLOC_ATOMIC(2 * sizeof(void *));
+
+        table[0] = watched[n] = GC_MALLOC(2 * sizeof(void *));
+        must(GC_register_long_ephemeron(&table[0], used[0]) == GC_SUCCESS);
+        must(GC_register_long_link(&watched[n], watched[n]) == GC_SUCCESS);
+    }
+}
+
+static void lost_tables(void)
+{
+    make_lost_tables();
+    collect();
+    tell("values of lost tables that go", ROWS - count(watched, ROWS), ROWS);
+    for (unsigned n = 0; n < ROWS; n++)
+        (void)GC_unregister_long_link(&watched[n]);
+}
+
+static void finalizer(void *object, void *cd)
+{
+    const uintptr_t n = (uintptr_t)cd;
+
+    wrong += values[n] != NULL || watched[n] == NULL || *(void **)watched[n] != object;
+    came++;
+}
+
+/* A key with a finalizer, a short row and a long one: the finalizer finds no short row, and the value of the long one. */
+APART static void make_registered(uintptr_t n)
+{
+    void **key = GC_MALLOC(2 * sizeof(void *)), **value = GC_MALLOC(2 * sizeof(void *));
+
+    value[0] = key;
+    values[n] = GC_MALLOC(2 * sizeof(void *));
+    watched[n] = value;
+    must(GC_register_ephemeron(&values[n], key) == GC_SUCCESS);
+    must(GC_register_long_ephemeron(&watched[n], key) == GC_SUCCESS);
+    GC_register_finalizer(key, finalizer, (void *)n, 0, 0);
+}
+
+static void registered_keys(void)
+{
+    for (uintptr_t n = 0; n < ROWS; n++)
+        make_registered(n);
+    collect();
+    (void)GC_invoke_finalizers();
+    tell("finalizers of keys", came, ROWS);
+    collect();
+    tell("long rows that go with their keys", ROWS - count(watched, ROWS), ROWS);
+}
+
+/* Each answer of the calls, about words outside the heap. */
+static void answers(void)
+{
+    static void *words[3];
+    void **key = GC_MALLOC(2 * sizeof(void *));
+
+    wrong += GC_register_ephemeron(&words[0], key) != GC_SUCCESS || GC_register_long_ephemeron(&words[0], key) != GC_DUPLICATE;
+    wrong += GC_move_ephemeron(&words[1], &words[2]) != GC_NOT_FOUND || GC_register_ephemeron(&words[1], key) != GC_SUCCESS;
+    wrong += GC_move_ephemeron(&words[0], &words[1]) != GC_DUPLICATE || GC_move_ephemeron(&words[0], &words[2]) != GC_SUCCESS;
+    wrong += GC_unregister_ephemeron(&words[0]) || !GC_unregister_ephemeron(&words[1]) || !GC_unregister_ephemeron(&words[2]);
+    tell("answers", 0, 0);
+}
+
+int main(void)
+{
+    GC_INIT();
+    GC_set_finalize_on_demand(1);
+    GC_set_java_finalization(1);
+    GC_disable();
+    keys = GC_MALLOC_ATOMIC_UNCOLLECTABLE(ROWS * sizeof *keys);
+    values = GC_MALLOC_ATOMIC_UNCOLLECTABLE(ROWS * sizeof *values);
+    watched = GC_MALLOC_ATOMIC_UNCOLLECTABLE(ROWS * sizeof *watched);
+    tables = GC_MALLOC_UNCOLLECTABLE(ROWS * sizeof *tables);
+    used = GC_MALLOC_UNCOLLECTABLE(ROWS * sizeof *used);
+    memset(values, 0, ROWS * sizeof *values);
+    weak_tables();
+    chains();
+    lost_tables();
+    registered_keys();
+    answers();
+    return 0;
+}
