@@ -73,7 +73,8 @@ int main(void)
         make(n);
     for (unsigned n = 0; n < OBJECTS; n += 8)
         wrong += !GC_cancel_cleanup(numbers[n]) || GC_cancel_cleanup(numbers[n]);
-    wrong += GC_cancel_cleanup(0) || GC_add_cleanup(&on_stack, GC_CLEANUP_LONG, long_cleanup, 0);
+    wrong += GC_cancel_cleanup(0) || GC_add_cleanup(&on_stack, GC_CLEANUP_LONG, long_cleanup, 0) || GC_add_cleanup(0, GC_CLEANUP_LONG, long_cleanup, 0);
+    wrong += GC_add_cleanup(objects[0] + 1, GC_CLEANUP_LONG, long_cleanup, 0) || GC_add_cleanup(objects[0], GC_CLEANUP_LONG, 0, 0); /* within an object; no procedure */
     collect();
     wrong += GC_invoke_finalizers() != 0;
     memset(objects, 0, OBJECTS * sizeof *objects);

@@ -1,10 +1,11 @@
 /* ephemerons: those of gc_ephemeron.h, over the replaced library alone. A weak table whose values lead to their keys keeps all of its rows as a table of links, and those
- * alone whose keys are used otherwise as one of ephemerons. Rows of chains, of lost tables, and of keys with finalizers; words that move, and words outside the heap.
+ * alone whose keys are used otherwise as one of ephemerons. Rows of chains, of lost tables, of keys with finalizers, and of pointers with tags; words that move, and words
+ * outside the heap.
  */
 #include "graph.h"
 #include "gc_ephemeron.h"
 
-enum { ROWS = 20000, USED = 10, FEW = 100 };
+enum { ROWS = 20000, USED = 10, FEW = 100, TAG = 3 };
 
 static unsigned wrong, came;
 static void **keys, **values, **tables; /* words that bdwgc doesn't scan; words of tables that it does */
@@ -185,10 +186,25 @@ static void answers(void)
     wrong += GC_move_ephemeron(&words[1], &words[2]) != GC_NOT_FOUND || GC_register_ephemeron(&words[1], key) != GC_SUCCESS;
     wrong += GC_move_ephemeron(&words[0], &words[1]) != GC_DUPLICATE || GC_move_ephemeron(&words[0], &words[2]) != GC_SUCCESS;
     wrong += GC_unregister_ephemeron(&words[0]) || !GC_unregister_ephemeron(&words[1]) || !GC_unregister_ephemeron(&words[2]);
+    wrong += GC_register_ephemeron(&words[0], words) != GC_NOT_FOUND || GC_register_long_ephemeron(&words[0], key + 1) != GC_NOT_FOUND; /* outside the heap; within an object */
+    wrong += GC_register_long_ephemeron(&words[0], NULL) != GC_NOT_FOUND || GC_unregister_ephemeron(&words[0]);
+    collect();
     tell("answers", 0, 0);
 }
 
-int main(void)
+/* The value's address has a tag, at which bdwgc takes it for one of the object, and no other address within an object. */
+APART static void make_tagged(uintptr_t n)
+{
+    void **value = GC_MALLOC(2 * sizeof(void *));
+
+    value[0] = boxed(n);
+    watched[n] = value;
+    values[n] = (char *)value + (n % 2 ? TAG : 0);
+    must(GC_register_long_link(&watched[n], value) == GC_SUCCESS);
+    must(GC_register_ephemeron(&values[n], used[0]) == GC_SUCCESS);
+}
+
+static void opens(void)
 {
     GC_INIT();
     GC_set_finalize_on_demand(1);
@@ -200,6 +216,29 @@ int main(void)
     tables = GC_MALLOC_UNCOLLECTABLE(ROWS * sizeof *tables);
     used = GC_MALLOC_UNCOLLECTABLE(ROWS * sizeof *used);
     memset(values, 0, ROWS * sizeof *values);
+}
+
+static void tagged(void)
+{
+    GC_set_all_interior_pointers(0);
+    opens();
+    GC_register_displacement(TAG);
+    used[0] = GC_MALLOC(2 * sizeof(void *));
+    for (uintptr_t n = 0; n < ROWS; n++)
+        make_tagged(n);
+    collect();
+    for (uintptr_t n = 0; n < ROWS; n++)
+        wrong += !watched[n] || *(uintptr_t *)*(void **)watched[n] != n;
+    used[0] = NULL;
+    collect();
+    collect();
+    tell("values with tags that go", ROWS - count(watched, ROWS), ROWS);
+}
+
+int main(void)
+{
+    in_a_process(tagged); /* what bdwgc takes for a pointer is chosen before it is opened */
+    opens();
     weak_tables();
     chains();
     lost_tables();
