@@ -389,6 +389,25 @@ static void led_to_by_a_row(void)
     closes();
 }
 
+/* A registered value that leads to its own key: in a long row it waits for itself, unless it is of kind NO_ORDER; a short row is cleared before. */
+static void registered_value(derrimas_finalizers_link_kind of, derrimas_finalizers_kind kind)
+{
+    const bool waits = of == LONG && kind != DERRIMAS_FINALIZERS_NO_ORDER;
+
+    opens();
+    objects[0].is_root = true;
+    points(2, 1);
+    row(of, 0, 0, 1, 2);
+    OK(derrimas_finalizers_register(&finalizers, number_of(&objects[2]), kind, 40, 0, 0, NULL, NULL));
+    collects(2, !waits, 3);
+    IS(objects[0].words[0] != 0, of == LONG);
+    if (!waits)
+        runs(40);
+    collects(2, 0, waits ? 3 : 1);
+    IS(counted().registrations == waits && counted().short_ephemerons == 0 && counted().long_ephemerons == waits, true);
+    closes();
+}
+
 /* A word in no object: the key alone decides. */
 static void word_of_no_object(void)
 {
@@ -593,6 +612,10 @@ static void both(void)
     lost_table();
     short_and_long_rows();
     led_to_by_a_row();
+    for (int kind = DERRIMAS_FINALIZERS_NORMAL; kind <= DERRIMAS_FINALIZERS_UNREACHABLE; kind++) {
+        registered_value(SHORT, (derrimas_finalizers_kind)kind);
+        registered_value(LONG, (derrimas_finalizers_kind)kind);
+    }
     word_of_no_object();
     link_and_ephemeron(SHORT);
     link_and_ephemeron(LONG);
