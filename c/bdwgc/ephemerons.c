@@ -1,11 +1,12 @@
 /* ephemerons: those of gc_ephemeron.h, over the replaced library alone. A weak table whose values lead to their keys keeps all of its rows as a table of links, and those
  * alone whose keys are used otherwise as one of ephemerons. Rows of chains, of lost tables, of keys with finalizers, and of pointers with tags; words that move, and words
- * outside the heap.
+ * outside the heap. Threads that make rows while another one collects.
  */
+#include <pthread.h>
 #include "graph.h"
 #include "gc_ephemeron.h"
 
-enum { ROWS = 20000, USED = 10, FEW = 100, TAG = 3 };
+enum { ROWS = 20000, USED = 10, FEW = 100, TAG = 3, THREADS = 4 };
 
 static unsigned wrong, came;
 static void **keys, **values, **tables; /* words that bdwgc doesn't scan; words of tables that it does */
@@ -176,6 +177,67 @@ static void registered_keys(void)
     tell("long rows that go with their keys", ROWS - count(watched, ROWS), ROWS);
 }
 
+/* ---- threads */
+
+static bool is_over; /* the makers have ended */
+
+/* The value is written once the word is an ephemeron, and to another word before the ephemeron is moved there. */
+APART static bool make_moved(uintptr_t n)
+{
+    void **key = GC_MALLOC(2 * sizeof(void *)), **value = GC_MALLOC(2 * sizeof(void *));
+    bool is_right = GC_register_ephemeron((void **)&keys[n], key) == GC_SUCCESS;
+
+    value[0] = key;
+    value[1] = boxed(n);
+    used[n] = n % USED == 0 ? key : NULL;
+    keys[n] = values[n] = value;
+    return is_right && GC_move_ephemeron((void **)&keys[n], &values[n]) == GC_SUCCESS && !GC_unregister_ephemeron((void **)&keys[n]);
+}
+
+static void *making(void *first)
+{
+    for (uintptr_t n = 0; n < ROWS / THREADS; n++)
+        if (!make_moved((uintptr_t)first + n))
+            __atomic_add_fetch(&wrong, 1, __ATOMIC_RELAXED);
+    scrub();
+    return NULL;
+}
+
+static void *collecting(void *nothing)
+{
+    while (!__atomic_load_n(&is_over, __ATOMIC_RELAXED)) {
+        GC_gcollect();
+        usleep(300);
+    }
+    return nothing;
+}
+
+static void in_threads(void)
+{
+    pthread_t makers[THREADS], collector;
+
+    for (unsigned n = 0; n < ROWS; n++)
+        (void)GC_unregister_ephemeron(&values[n]); /* that the stack has kept */
+    memset(values, 0, ROWS * sizeof *values);
+    memset(used, 0, ROWS * sizeof *used);
+    GC_enable();
+    for (uintptr_t n = 0; n < THREADS; n++)
+        must(!pthread_create(&makers[n], NULL, making, (void *)(n * (ROWS / THREADS))));
+    must(!pthread_create(&collector, NULL, collecting, NULL));
+    for (unsigned n = 0; n < THREADS; n++)
+        pthread_join(makers[n], NULL);
+    __atomic_store_n(&is_over, true, __ATOMIC_RELAXED);
+    pthread_join(collector, NULL);
+    GC_disable();
+    collect();
+    for (uintptr_t n = 0; n < ROWS; n += USED) {
+        void **value = values[n];
+
+        wrong += !value || value[0] != used[n] || *(const uintptr_t *)value[1] != n;
+    }
+    tell("rows of threads that go", ROWS - count(values, ROWS), ROWS - ROWS / USED);
+}
+
 /* Each answer of the calls, about words outside the heap. */
 static void answers(void)
 {
@@ -243,6 +305,7 @@ int main(void)
     chains();
     lost_tables();
     registered_keys();
+    in_threads();
     answers();
     return 0;
 }
