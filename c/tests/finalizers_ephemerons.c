@@ -445,6 +445,63 @@ static void link_and_ephemeron(derrimas_finalizers_link_kind kind)
     closes();
 }
 
+/* A word that is a short link, too: it is cleared if the link's target isn't marked, even by a value, and stays an ephemeron. */
+static void word_with_a_link(void)
+{
+    opens();
+    objects[0].is_root = objects[1].is_root = true;
+    row(LONG, 0, 0, 1, 2);
+    OK(derrimas_finalizers_link(&finalizers, SHORT, word_of(&objects[0], 0), number_of(&objects[2]), NULL));
+    collects(3, 0, 3);
+    IS(objects[0].words[0], number_of(&objects[2]));
+    OK(derrimas_finalizers_link(&finalizers, SHORT, word_of(&objects[0], 0), number_of(&objects[3]), NULL));
+    collects(3, 0, 3);
+    IS(objects[0].words[0] == 0 && counted().short_links == 0 && counted().long_ephemerons == 1, true);
+    objects[0].words[0] = number_of(&objects[3]);
+    collects(3, 0, 3);
+    IS(objects[3].is_marked, true);
+    objects[1].is_root = false;
+    collects(3, 0, 1);
+    IS(objects[0].words[0] == 0 && counted().long_ephemerons == 0, true);
+    closes();
+}
+
+/* A key with its own row in it, and one that is its own value. */
+static void own_rows(derrimas_finalizers_link_kind kind)
+{
+    opens();
+    objects[1].is_root = true;
+    row(kind, 1, 0, 1, 2);
+    collects(3, 0, 2);
+    objects[0].is_root = true;
+    objects[1].is_root = false;
+    row(kind, 0, 0, 3, 3);
+    collects(3, 0, 1);
+    IS(objects[0].words[0] == 0 && counted().short_ephemerons + counted().long_ephemerons == 0, true);
+    closes();
+}
+
+/* What a value keeps has its short links and its short cleanups, until the key is lost. */
+static void kept_by_a_value(void)
+{
+    static uint64_t word;
+
+    opens();
+    objects[0].is_root = objects[1].is_root = true;
+    points(2, 3);
+    row(LONG, 0, 0, 1, 2);
+    word = number_of(&objects[3]);
+    OK(derrimas_finalizers_link(&finalizers, SHORT, (uint64_t)(uintptr_t)&word, word, NULL));
+    OK(derrimas_finalizers_add_cleanup(&finalizers, word, DERRIMAS_FINALIZERS_SHORT, 50, 0, 0, NULL));
+    collects(3, 0, 4);
+    IS(word == number_of(&objects[3]) && counted().cleanups == 1, true);
+    objects[1].is_root = false;
+    collects(3, 1, 1);
+    IS(word, 0);
+    runs(50);
+    closes();
+}
+
 /* ---- questions */
 
 /* So many rows whose values are the keys of the next, in the order of the table or against it; the first key is a root. */
@@ -619,6 +676,10 @@ static void both(void)
     word_of_no_object();
     link_and_ephemeron(SHORT);
     link_and_ephemeron(LONG);
+    word_with_a_link();
+    own_rows(SHORT);
+    own_rows(LONG);
+    kept_by_a_value();
     for (size_t rows = 1; rows < 200; rows += rows) {
         long_chain(rows, false);
         long_chain(rows, true);
