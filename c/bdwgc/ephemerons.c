@@ -243,11 +243,15 @@ static void answers(void)
 {
     static void *words[3];
     void **key = GC_MALLOC(2 * sizeof(void *));
+    unsigned lines;
 
     wrong += GC_register_ephemeron(&words[0], key) != GC_SUCCESS || GC_register_long_ephemeron(&words[0], key) != GC_DUPLICATE;
     wrong += GC_move_ephemeron(&words[1], &words[2]) != GC_NOT_FOUND || GC_register_ephemeron(&words[1], key) != GC_SUCCESS;
     wrong += GC_move_ephemeron(&words[0], &words[1]) != GC_DUPLICATE || GC_move_ephemeron(&words[0], &words[2]) != GC_SUCCESS;
-    wrong += GC_unregister_ephemeron(&words[0]) || !GC_unregister_ephemeron(&words[1]) || !GC_unregister_ephemeron(&words[2]);
+    lines = dumped_lines(); /* the dump tells of the long one and of the short one */
+    wrong += GC_unregister_ephemeron(&words[0]) || !GC_unregister_ephemeron(&words[2]) || dumped_lines() != lines - 1;
+    wrong += GC_register_long_ephemeron(&words[2], key) != GC_SUCCESS || !GC_unregister_ephemeron(&words[1]) || dumped_lines() != lines - 1;
+    wrong += !GC_unregister_ephemeron(&words[2]);
     wrong += GC_register_ephemeron(&words[0], words) != GC_NOT_FOUND || GC_register_long_ephemeron(&words[0], key + 1) != GC_NOT_FOUND; /* outside the heap; within an object */
     wrong += GC_register_long_ephemeron(&words[0], NULL) != GC_NOT_FOUND || GC_unregister_ephemeron(&words[0]);
     collect();

@@ -902,16 +902,21 @@ GC_API void GC_CALL GC_finalize_all(void)
 #ifndef NO_DEBUGGING
 enum { PART = 64 }; /* of a walk */
 
-static void dump_links(derrimas_finalizers_link_kind kind)
+typedef derrimas_finalizers_code walking(const derrimas_finalizers *, derrimas_finalizers_link_kind, uint64_t *, derrimas_finalizers_link_at *, size_t, size_t *);
+
+static void dump_words(walking *walk, derrimas_finalizers_link_kind kind, const char *to)
 {
     derrimas_finalizers_link_at links[PART];
     uint64_t from = 0;
     size_t count, i;
 
-    while (derrimas_finalizers_links(&finalizers, kind, &from, links, PART, &count) == DERRIMAS_FINALIZERS_OK)
+    while (walk(&finalizers, kind, &from, links, PART, &count) == DERRIMAS_FINALIZERS_OK)
         for (i = 0; i < count; i++)
-            GC_printf("word %p leads to %p\n", (void *)SHOW(links[i].word), (void *)SHOW(links[i].target));
+            GC_printf("word %p %s %p\n", (void *)SHOW(links[i].word), to, (void *)SHOW(links[i].target));
 }
+
+static void dump_links(derrimas_finalizers_link_kind kind) { dump_words(derrimas_finalizers_links, kind, "leads to"); }
+static void dump_ephemerons(derrimas_finalizers_link_kind kind) { dump_words(derrimas_finalizers_ephemerons, kind, "has the key"); }
 
 static void dump_registrations(void)
 {
@@ -924,14 +929,36 @@ static void dump_registrations(void)
             GC_printf("%p\n", (void *)SHOW(registrations[i].object));
 }
 
+static void dump_cleanups(void)
+{
+    derrimas_finalizers_cleanup_at cleanups[PART];
+    uint64_t from = 0;
+    size_t count, i;
+
+    while (derrimas_finalizers_cleanups(&finalizers, &from, cleanups, PART, &count) == DERRIMAS_FINALIZERS_OK)
+        for (i = 0; i < count; i++)
+            GC_printf("%p, cleanup %lu\n", (void *)SHOW(cleanups[i].object), (unsigned long)cleanups[i].number + 1);
+}
+
 GC_API void GC_CALL GC_dump_finalization(void)
 {
+    const derrimas_finalizers_counts counts = counted();
+
     GC_printf("short links:\n");
     dump_links(DERRIMAS_FINALIZERS_SHORT);
     GC_printf("long links:\n");
     dump_links(DERRIMAS_FINALIZERS_LONG);
     GC_printf("objects with finalizers:\n");
     dump_registrations();
+    if (counts.short_ephemerons + counts.long_ephemerons > 0) { /* without these and cleanups it prints as many lines as bdwgc by itself */
+        GC_printf("ephemerons:\n");
+        dump_ephemerons(DERRIMAS_FINALIZERS_SHORT);
+        dump_ephemerons(DERRIMAS_FINALIZERS_LONG);
+    }
+    if (counts.cleanups > 0) {
+        GC_printf("objects with cleanups:\n");
+        dump_cleanups();
+    }
 }
 #endif
 
