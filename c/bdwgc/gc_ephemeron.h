@@ -15,8 +15,8 @@
 extern "C" {
 #endif
 
-/* Makes a word an ephemeron of a key, which is given by its first byte, in place of the ephemeron that it may be. The word is set to null, and the ephemeron is removed, by
- * the first collection that finds the key unreachable, before its finalizer; of a long one, by the collection that reclaims the key. Returns what
+/* Makes a word an ephemeron of a key, which is given by its first byte, as GC_base returns it, in place of the ephemeron that it may be. The word is set to null, and the
+ * ephemeron is removed, by the first collection that finds the key unreachable, before its finalizer; of a long one, by the collection that reclaims the key. Returns what
  * GC_general_register_disappearing_link returns: GC_SUCCESS, GC_DUPLICATE if the word was an ephemeron, of either kind, GC_NO_MEMORY or GC_UNIMPLEMENTED; or
  * GC_NOT_FOUND if the key is no first byte of an object of the heap. As there, a word that is null or not aligned ends the program. The word doesn't retain its value
  * before: write the value afterwards, or have something else retain it until then. */
