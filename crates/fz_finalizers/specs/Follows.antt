@@ -50,7 +50,7 @@ pub record Queues (pass : ℕ) (old new : State) : Type 0 where
   pub next_number : new.next_number ≡ old.next_number
   pub cleanups : new.cleanups ≡ old.cleanups
 
--- some ephemerons go, and none comes or changes
+-- some ephemerons may be removed; none is added or changed
 abbrev pub OnlyGo : Ephemerons → Ephemerons → Type 0
 OnlyGo old new = (kind : LinkKind) (word key : ℕ) → get (of_kind new kind) word ≡ Some key → get (of_kind old kind) word ≡ Some key
 
@@ -94,11 +94,11 @@ with_registration s object finalizer = record s {
 abbrev pub without_registration : State → ℕ → State
 without_registration s object = record s { registrations = remove s.registrations object; late = sets.remove s.late object }
 
--- the object has another cleanup, under the next number
+-- the object has one more cleanup, under the next number
 abbrev pub with_cleanup : State → ℕ → Cleanup → State
 with_cleanup s object cleanup = record s { cleanups = insert s.cleanups s.next_number (record { object = object; cleanup = cleanup }); next_number = s.next_number + 1 }
 
--- the cleanup with this number is gone
+-- the cleanup with this number is removed
 abbrev pub without_cleanup : State → ℕ → State
 without_cleanup s number = record s { cleanups = remove s.cleanups number }
 

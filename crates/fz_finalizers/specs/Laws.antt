@@ -19,7 +19,7 @@ use Rattle.fz_finalizers.specs.Follows.{Event, Link, Unlink, Move, Ephemeron, En
 use Rattle.fz_finalizers.specs.Passed.{DecidesFor, PassesFor}
 use Rattle.fz_finalizers.specs.Walks.{AreRegistrations, AreCleanups, AreLinks, YieldsRoots}
 
--- each link is the same, except those of which this holds
+-- each link is the same, except those that pass this test
 abbrev pub SameLinksBut : (LinkKind → ℕ → Type 0) → State → State → Type 0
 SameLinksBut changed old new = (kind : LinkKind) (word : ℕ) → (changed kind word → ⊥) → get (links_of new kind) word ≡ get (links_of old kind) word
 
@@ -39,14 +39,15 @@ ChangesLinks old (Move kind word to) new =
 ChangesLinks old Pass new = Unit {0}
 ChangesLinks old event new = SameLinks old new
 
--- each word has the ephemeron that it had, or none as before, except those of which this holds
+-- each word has the ephemeron that it had, or none as before, except the words that pass this test
 abbrev pub SameEphemeronsBut : (ℕ → Type 0) → State → State → Type 0
 SameEphemeronsBut changed old new = (word : ℕ) → (changed word → ⊥) → ephemeron_at new.ephemerons word ≡ ephemeron_at old.ephemerons word
 
 abbrev pub SameEphemerons : State → State → Type 0
 SameEphemerons old new = SameEphemeronsBut (λ word. ⊥) old new
 
--- an event changes the ephemerons of the words that it names: one moves, with its kind and its key, only to a word that has none. In a pass some go.
+-- an event changes only the ephemerons of the words that it names. An ephemeron moves with its kind and its key, and only to a word that has none. A pass may
+-- remove ephemerons.
 abbrev pub ChangesEphemerons : State → Event → State → Type 0
 ChangesEphemerons old (Ephemeron kind word key) new = (ephemeron_at new.ephemerons word ≡ Some (kind, key)) × SameEphemeronsBut (λ w. w ≡ word) old new
 ChangesEphemerons old (EndEphemeron word) new = (ephemeron_at new.ephemerons word ≡ None) × SameEphemeronsBut (λ w. w ≡ word) old new

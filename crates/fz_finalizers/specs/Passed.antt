@@ -26,7 +26,8 @@ abbrev pub DecidesFor : Type 0 → (ℕ → Option ℕ) → ℕ → State → Ma
 DecidesFor Exact place pass old objects found new new_objects marked =
     DecidesFlagged Exact place (contains old.late) pass (length old.queue) (parts_in objects old) found (parts_left_in new_objects marked new) old.queue new.queue
 
--- a pass with cleanups: the short ones whose objects aren't found come before what the pass itself queues, the long ones whose objects aren't retained after it
+-- a pass with cleanups. Before what the pass itself queues come the short cleanups whose objects aren't found, and after it the long ones whose objects aren't
+-- retained.
 pub record PassesFor (Exact : Type 0) (place : ℕ → Option ℕ) (old : State) (objects : Map Object) (found : ℕ → Bool) (new : State) (new_objects : Map Object) (marked : ℕ → Bool) : Type 0 where
   pub begun : State
   pub passed : State

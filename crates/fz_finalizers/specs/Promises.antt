@@ -78,7 +78,7 @@ abbrev pub IsEntryOf : ℕ × Made → Entry → Type 0
 IsEntryOf (object, Registered f) e = (e.obj ≡ object) × (e.proc ≡ f.procedure) × (e.cd ≡ f.client_data)
 IsEntryOf (object, Attached c) e = (e.obj ≡ 0) × (e.birth ≡ 0) × (e.proc ≡ c.procedure) × (e.cd ≡ c.client_data)
 
--- a registration or cleanup has the number of those that were made before it, and what was passed; and so has its entry
+-- the number of a registration or a cleanup is the count of those that were made before it. It has what was passed to the call, and so has its entry.
 pub record Records (s : State) (past : Past) : Type 0 where
   pub numbers : s.next_number ≡ length past.made
   pub registered : (object : ℕ) (r : Registration) → get s.registrations object ≡ Some r

@@ -1,5 +1,5 @@
--- The model of the queue: every entry ever queued; the held ones, which aren't finished, waiting or taken; from which number on it is in memory; how many
--- entries are in memory; for how many more there is room; and the places of the held ones.
+-- The model of the queue: every entry ever queued; the entries that aren't finished, whether they wait or were taken, which are called held in this file; the
+-- number from which on the queue is in memory; how many entries are in memory; for how many more there is room; and the places of the held entries.
 -- code: fz_finalizers/src/queue.rt, stored.rt, past.rt, unfinished.rt
 use Rattle.std.specs.Prelude.{◌≡◌, ◌≢◌, ℕ, ◌+◌, ◌^◌, ◌<◌, ◌≤◌, ◌⊎◌, ◌++◌, ◌&&◌, nat_le, nat_lt, if◌then◌else◌, Bool, List, [], ◌∷◌, length, drop, map, slice_get, Option, None, Some, All, Contains, IsTrue, MatchOption, refl}
 use Rattle.std.specs.Coded.{Coded, code_by, coded×, coded_ℕ, coded_list, coded_option}

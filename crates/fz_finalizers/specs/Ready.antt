@@ -1,5 +1,5 @@
--- The model of the entries: every entry ever queued, how many of them were taken, those taken and not finished, for how many further ones there is room, and
--- the places of the unfinished ones, over which iterators go.
+-- The model of the entries: every entry ever queued; how many of them were taken; the entries that were taken and aren't finished; for how many more there is
+-- room; and the places of the unfinished entries, over which iterators go.
 -- code: fz_finalizers/src/ready.rt, queue.rt
 use Rattle.std.specs.Prelude.{◌≡◌, ℕ, ◌+◌, ◌-◌, ◌≤◌, ◌<◌, ◌++◌, List, [], ◌∷◌, length, drop, take, slice_get, Option, Some, None, refl, Bool, All}
 use Rattle.std.specs.Coded.{Coded, code_by, coded×, coded_ℕ, coded_list, coded_option}

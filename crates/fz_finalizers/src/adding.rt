@@ -32,9 +32,9 @@ fn check(table: &Table, cleanups: &Cleanups, object: Addr) -> Result<(), Refused
 impl Finalizers {
     /// Adds a cleanup to an object, which may have others and a finalizer, and returns its number. A number belongs to one cleanup or one registration.
     ///
-    /// When the object is lost, an entry without it is queued: its object and its birth are 0, and `reg` is this number. So the object's memory can be reclaimed
-    /// in the same pass. Until then the client data is a root, and the object isn't. A new object at the same address would inherit the cleanup, so a host
-    /// that reclaims objects at other times than after a pass cancels their cleanups.
+    /// When the object is lost, an entry without the object is queued: the entry's object and birth are 0, and its `reg` is this number. So the object's memory
+    /// can be reclaimed after the same pass. Until then the client data is a root, and the object isn't. A new object at the same address would inherit the
+    /// cleanup, so a host that reclaims objects at other times than after a pass has to cancel their cleanups.
     ///
     /// Fails with, in this order: `Zero` if the object is 0, `Exhausted` after 2^48 numbers, `Full` if there are 2^32 cleanups, `NoMemory`.
     pub fn add_cleanup(&mut self, object: Addr, cleanup: Cleanup) -> Result<u64, Refused>

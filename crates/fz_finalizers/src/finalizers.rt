@@ -18,10 +18,12 @@ use std::marker::Model;
 /// Objects, words, procedures and client data are numbers that are only compared and passed back, never dereferenced. Zero is neither an object nor a word.
 ///
 /// Its model is a state, the room that is reserved, and the order of iterators. If several refusals of a call apply, it returns the first in the documented
-/// order. A refused call leaves the state unchanged. Only `new`, `reserve`, `shrink`, a new registration, a new link, an ephemeron that is new or changes its
-/// kind, and a cleanup allocate, and `shrink` can't fail. Each registration and each cleanup has room reserved for its entry, each link for its moves, and each
-/// ephemeron for its moves and for a pass, so a pass, a take and a move can't run out of memory. A registration or a cleanup without reserved room first reuses
-/// the memory of finished entries, and so does a pass, except in finalizers that `whole` made.
+/// order. A refused call leaves the state unchanged.
+///
+/// These allocate: `new`, `reserve`, `shrink`, a new registration, a new link, an ephemeron that is new or changes its kind, and a cleanup. Of these `shrink`
+/// can't fail. Room is reserved for the entry of each registration and cleanup, for the moves of each link, and for the moves of each ephemeron and a pass over
+/// it. So a pass, a take and a move can't run out of memory. A registration or a cleanup without reserved room first reuses the memory of finished entries, and
+/// so does a pass, except in finalizers that `whole` made.
 pub struct Finalizers {
     pub(crate) table: Table,
     pub(crate) short: Links,

@@ -6,9 +6,9 @@ ghost use Rattle.fz_finalizers.specs.Promises.{Past, IsReached, Promises, Record
 ghost use Rattle.std.specs.Prelude.{ℕ, Option};
 ghost use Rattle.fz_finalizers.specs.Laws.{ChangesEphemerons, ChangesLinks, NumbersPasses, PassesAlike, YieldAll};
 
-/// Does nothing. Its contract states what holds after every sequence of calls from an opening, whatever the host does: each number belongs to one
-/// registration or cleanup, which is registered, waiting, held or finished; entries are taken in queue order, each once; and an entry is kept until it is finished. And
-/// it states in other words what each call does to links, to ephemerons and to the numbers of passes, and what iterators yield.
+/// Does nothing. Its contract states what holds after every sequence of calls from an opening, whatever the host does. Each number belongs to one registration
+/// or cleanup, which is registered, waiting, held or finished. Entries are taken in queue order, each once. An entry is kept until it is finished. The contract
+/// also states in other words what each call does to links, to ephemerons and to the numbers of passes, and what iterators yield.
 pub fn every_sequence()
     ensures promises { (s : State) (past : Past) → IsReached s past → Promises s past }
     // The host's marker finds it by iterating over the roots.

@@ -68,8 +68,8 @@ impl Finalizers {
         reserve_moves(&mut self.moves, self.long.len() + more_long)
     }
 
-    /// Carries out a pass over the host's heap, and queues the cleanups that are due. Requires that its marking is complete. The host may reclaim what is unmarked afterwards. Takes time
-    /// proportional to the registrations and the links, and the time that the host takes.
+    /// Carries out a pass over the host's heap, and queues the cleanups that are due. Requires that the host's marking is complete. The host may reclaim what
+    /// is unmarked afterwards. Takes time proportional to the registrations, the links and the cleanups, and the time that the host takes.
     ///
     /// First the words of short links to unmarked objects are cleared. Then an unmarked registered object is queued if no path leads to it from an unmarked
     /// registered object, not even from the object itself; `Kind` says which paths count. If the host marks more than it is asked to mark, only some of these
@@ -106,15 +106,16 @@ impl Finalizers {
         passed
     }
 
-    /// Carries out a pass over a heap with ephemerons: it finds, queues and retains by what sets of objects hold. A set holds the objects that its members reach,
-    /// and the value of each ephemeron whose key and whose holder, the object in which its word lies, it holds. Everything else is as `pass` says.
+    /// Carries out a pass over a heap with ephemerons, which finds, queues and retains by what sets of objects hold. A set holds the objects that its members
+    /// reach, and the value of each ephemeron whose key and whose holder it holds; the holder is the object in which the ephemeron's word lies. Everything else
+    /// is as `pass` says.
     ///
-    /// First the values of ephemerons are marked whose keys and holders are marked, and everything that they reach, until no more follow: what is marked then is
-    /// found. An ephemeron that is short and whose key isn't found is cleared and removed with the short links, one that is long and whose key isn't retained with
-    /// the long links. One whose word lies in an object that isn't retained is removed, too. So an ephemeron never retains its own key.
+    /// First the pass marks the value of each ephemeron whose key and holder are marked, with everything that the value reaches, until no more values follow.
+    /// What is marked then is found. A short ephemeron whose key isn't found is cleared and removed with the short links, and a long one whose key isn't
+    /// retained with the long links. An ephemeron whose word lies in an object that isn't retained is removed too. So an ephemeron never retains its own key.
     ///
-    /// Takes no memory. Beside the time of `pass`, each of four times it asks for the marks of keys and of holders of all ephemerons, and again of those that
-    /// wait only while values are marked. The host has to ensure that keys are its objects, too.
+    /// Takes no memory. Takes the time of `pass`, and marks values four times. Each of these times it asks for the marks of the keys and holders of all
+    /// ephemerons, and asks again about those that wait only while values are marked. The host has to ensure that keys are its objects too.
     pub fn pass_with_ephemerons<H: Values>(&mut self, host: &mut H) -> Passed
         requires registered { AreRegistered (H.objects host.old) self.old.registrations }
         requires short { AreTargets (H.objects host.old) self.old.short }

@@ -6,8 +6,8 @@ ghost use Rattle.fz_finalizers.specs.States.{KeepsTables};
 use crate::finalizers::Finalizers;
 
 impl Finalizers {
-    /// Frees the memory that registrations, links, ephemerons, cleanups and entries don't need. If a smaller table or list can't be allocated, the old one stays. An iteration over
-    /// roots has to begin anew. Takes time proportional to all of these. A pass never does this.
+    /// Frees the memory that registrations, links, ephemerons, cleanups and entries don't need. If a smaller table or list can't be allocated, the old one
+    /// stays. An iteration over roots has to begin anew. Takes time proportional to all of these. A pass never calls it.
     pub fn shrink(&mut self)
         ensures state { self.new.state ≡ self.old.state }
         ensures order { KeepsTables self.old.order self.new.order }

@@ -34,7 +34,8 @@ impl Finalizers {
     }
 
     /// Forgets finished entries, if there are more than 1 for each 16 unfinished ones, and returns how many it forgot. Frees their memory, except the room for
-    /// the entries of `room` registrations, and at least of the registrations and cleanups that there are. Takes no memory. Takes time proportional to the entries in memory.
+    /// the entries of `room` registrations, and at least of the registrations and cleanups that there are. Takes no memory. Takes time proportional to the
+    /// entries in memory.
     pub fn forget(&mut self, room: usize) -> u64
         ensures state { self.new.state ≡ self.old.state }
         ensures whole { self.new.memory.whole ≡ self.old.memory.whole }

@@ -1,5 +1,5 @@
--- The invariant of the line, which every step of its owner and of its seats preserves. What was sent is what left the line, followed by what waits in it.
--- What left is in the lists of eight seats and in what the owner popped: each entry is in exactly one of them, once.
+-- The invariant of the line, which every step of its owner and of its seats preserves. The entries that were sent are those that left the line, followed by
+-- those that wait in it. Each entry that left is in exactly one place, once: in the list of one of eight seats, or in what the owner popped.
 -- code: fz_line/src/protocol.rt, owner.rt, seat.rt, duty.rt
 use Rattle.std.specs.Prelude.{◌≡◌, ℕ, ◌+◌, ◌<◌, ◌≤◌, List, [], ◌++◌, length, take, drop, true, false, All}
 use Rattle.std.specs.List.{AllByRecursion}

@@ -59,8 +59,8 @@ impl Owner {
 
     /// Sends the entries of the overflow queue in order. Returns how many were sent, and evidence of the shortage if these aren't all.
     ///
-    /// It stops early only if memory for the next entry can't be allocated; this entry and all later ones are then not sent. As many entries as the line was
-    /// opened with room for can always be sent. Requires that the entries have successive numbers, of which the first is the number of entries sent before,
+    /// It stops early only if memory for the next entry can't be allocated; this entry and all later ones are then not sent. The entries for which the line had
+    /// room when it was opened can always be sent. Requires that the entries have successive numbers, of which the first is the number of entries sent before,
     /// and that at most 2^62 are sent in all.
     pub fn publish(&mut self, outbox: &[Entry]) -> (usize, Option<Shortage>)
         requires numbers { AreNumberedFrom (length self.old.sent) outbox.now }

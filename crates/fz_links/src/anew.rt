@@ -39,7 +39,7 @@ pub(crate) fn list_from(
     }
 }
 
-/// Inserts the listed links except one into a table that hasn't that one, and has room for them. Afterwards it has one free place less.
+/// Inserts the listed links except one into a table that has room for them, and doesn't have the excepted one. Afterwards the table has one free place less.
 pub(crate) fn insert_but(
     links: &mut IndexMap<Addr, Addr, AddressHasher>,
     list: &mut Vec<(Addr, Addr)>,

@@ -325,7 +325,7 @@ fn roots_of(finalizers: &Finalizers, root: Root) -> (usize, [u64; 8]) {
     (count, buffer)
 }
 
-/// What is held comes before what waits; a walk goes on where it was left.
+/// Held entries come before waiting ones; a walk resumes where it was left.
 #[test]
 fn queues_all_and_walks_over_roots(rt: HostRuntime) {
     let mut finalizers = after(&rt, rt.alloc(), &FOUR_QUEUED);

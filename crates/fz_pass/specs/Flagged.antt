@@ -24,7 +24,7 @@ ComesAfterFlag late registrations p q =
     ((late p.obj ≡ false) × (late q.obj ≡ true)) ⊎ ((late p.obj ≡ late q.obj) × ComesBefore registrations p q)
 
 module _ (place : ℕ → Option ℕ) (old : Parts) (found : ℕ → Bool) where
-  -- the short links of the model: by the words that they denote
+  -- the short links as the model has them: by the words that they denote
   abbrev pub short_words : Map ℕ
   short_words = placed place old.short
 
@@ -35,15 +35,15 @@ module _ (place : ℕ → Option ℕ) (old : Parts) (found : ℕ → Bool) where
   abbrev pub IsLast : ℕ → Type 0
   IsLast o = (other : ℕ) (r : Registration) → IsUnfound other r → other ≢ o → Leads (cleared short_words found old.objects) other o → ⊥
 
-  -- picks of the model, of the flagged ones only the last: in order, and all of them if marking is exact
+  -- picks of the model in order, of the flagged ones only those that `IsLast` allows; if marking is exact, all such picks
   pub record AreFlaggedPicks (Exact : Type 0) (late : ℕ → Bool) (picks : List Pick) : Type 0 where
     pub ordered : AllPairs (ComesAfterFlag late old.registrations) picks
     pub each : All (λ (p : Pick). IsPicked old.objects old.registrations short_words found p × (IsTrue (late p.obj) → IsLast p.obj)) picks
     pub whole : Exact → (o : ℕ) (r : Registration) → IsUnfound o r → (IsLedTo old.objects old.registrations short_words found o → ⊥) → (IsTrue (late o) → IsLast o)
         → Contains (map (λ (p : Pick). p.obj) picks) o
 
--- what a pass with this found set queues, with successive numbers, and the state after it; if marking is exact, this is exactly what the model queues and
--- retains, but for the flagged ones; otherwise it queues no more than that, and retains no less; a link denotes the word that `place` says
+-- what a pass with this found set queues, with successive numbers, and the state after it. If marking is exact, this is exactly what the model queues and
+-- retains, apart from the picks of flagged objects; otherwise it queues no more, and retains no less. `place` says which word a link denotes.
 pub record DecidesFlagged (Exact : Type 0) (place : ℕ → Option ℕ) (late : ℕ → Bool) (pass first : ℕ) (old : Parts) (found : ℕ → Bool) (new : Parts) (queue new_queue : List Entry) : Type 0 where
   pub picks : List Pick
   pub picked : AreFlaggedPicks place old found Exact late picks
@@ -58,7 +58,7 @@ pub record DecidesFlagged (Exact : Type 0) (place : ℕ → Option ℕ) (late : 
     long = links_held place old.objects old.long kept kept;
   }
 
--- where none is flagged, and each link denotes the word of its own number, it makes the decision of the model
+-- if no object is flagged, and each link denotes the word of its own number, a pass makes the decision of the model
 abbrev pub LateDecisionsDecide : Type 0 → (ℕ → Bool) → Type 0
 LateDecisionsDecide Exact late =
     ((o : ℕ) → IsFalse (late o)) → (old new : Parts) (found : ℕ → Bool) (pass first : ℕ) (queue new_queue : List Entry)

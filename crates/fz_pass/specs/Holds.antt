@@ -1,5 +1,6 @@
--- What a set of objects holds in a heap with ephemerons. An ephemeron is a word with a key, an object. Its holder is the object in which the word lies, and its
--- value is the object to which the word points. The host doesn't scan the word with the holder: it marks the value only if holder and key are marked.
+-- What a set of objects holds in a heap with ephemerons. An ephemeron is a word that has a key, which is an object. Its holder is the object in which the word
+-- lies, and its value is the object to which the word points. The host doesn't scan the word with the holder. It marks the value only if holder and key are
+-- marked.
 -- code: fz_pass/src/host.rt, settling.rt
 use Rattle.std.specs.Prelude.{◌≡◌, ◌⊎◌, ℕ, Bool, Option, None, Some, IsTrue}
 use Rattle.std.specs.FinMap.{get, empty}
@@ -28,8 +29,8 @@ abbrev pub IsOfValue : (Map Object → ℕ → Option ℕ) → Map Object → �
 IsOfValue value objects word a = (first : ℕ) × (value objects word ≡ Some first) × Leads objects first a
 
 module _ (place : ℕ → Option ℕ) (value : Map Object → ℕ → Option ℕ) (objects : Map Object) (IsOf : ℕ → ℕ → Type 0) where
-  -- a set of objects holds what is in it, each child of what it holds, and the value of each ephemeron whose key and whose holder it holds; a word that lies in
-  -- no object has no holder, and needs none
+  -- a set of objects holds its members, each child of what it holds, and the value of each ephemeron whose key and holder it holds. A word that lies in no
+  -- object has no holder, and requires none.
   pub data Holds (set : ℕ → Type 0) : ℕ → Type 0 where
     Member : {a : ℕ} → set a → Holds set a
     ByChild : {a b : ℕ} → Holds set a → Child objects a b → Holds set b

@@ -43,7 +43,7 @@ abbrev pub with_ephemeron : Ephemerons → LinkKind → ℕ → ℕ → Ephemero
 with_ephemeron ephemerons Short word key = record { short = insert ephemerons.short word key; long = remove ephemerons.long word }
 with_ephemeron ephemerons Long word key = record { short = remove ephemerons.short word; long = insert ephemerons.long word key }
 
--- the word is none
+-- the word is no ephemeron
 abbrev pub without_ephemeron : Ephemerons → ℕ → Ephemerons
 without_ephemeron ephemerons word = record { short = remove ephemerons.short word; long = remove ephemerons.long word }
 
@@ -56,7 +56,7 @@ abbrev pub moved : Ephemerons → ℕ → ℕ → Ephemerons
 moved ephemerons word to =
     if has_ephemeron ephemerons to then ephemerons else record { short = moved_to ephemerons.short word to (get ephemerons.short word); long = moved_to ephemerons.long word to (get ephemerons.long word) }
 
--- the list of waiting ephemerons and that of those put off are empty between passes, and have room for all
+-- two lists, of waiting ephemerons and of those that were put off, are empty between passes, and each has room for all ephemerons
 pub record HasLists (ephemerons : Ephemerons) (waiting rest : List (ℕ × ℕ)) (waiting_room rest_room : ℕ) : Type 0 where
   pub none_waits : waiting ≡ []
   pub none_rests : rest ≡ []

@@ -37,7 +37,8 @@ module _ (Exact : Type 0) (place : ℕ → Option ℕ) (value : Map Object → �
   abbrev pub SettlesOne : ℕ × ℕ → (ℕ → Bool) → (ℕ → Bool) → List (ℕ × ℕ) → List (ℕ × ℕ) → Bool → Type 0
   SettlesOne x old new rest new_rest again = PutsOff x old new rest new_rest again ⊎ LetsThrough x old new rest new_rest again
 
-  -- of these ephemerons some are left to be looked at, some are put off, and all others are through; if nothing was marked, those that are put off wait still
+  -- each of these ephemerons is still to be looked at (`left`), was put off (`rest`), or is through: its value is marked. If no value was marked, those that
+  -- were put off still wait.
   pub record Rounds (start : List (ℕ × ℕ)) (old : ℕ → Bool) (left rest : List (ℕ × ℕ)) (now : ℕ → Bool) (again : Bool) : Type 0 where
     pub closed : IsClosed objects now
     pub more : (a : ℕ) → IsTrue (old a) → IsTrue (now a)

@@ -15,26 +15,26 @@ use Rattle.fz_pass.specs.Picking.{pick_of}
 use Rattle.fz_pass.specs.Places.{placed, links_held}
 
 module _ (place : ℕ → Option ℕ) (value : Map Object → ℕ → Option ℕ) (old : Parts) (ephemerons : Ephemerons) (found : ℕ → Bool) where
-  -- what a pass judges by: the objects once the words of dead short links and of dead short ephemerons, whose keys aren't found, are zero, and the other
-  -- ephemerons
+  -- the objects by which a pass judges: the words of dead short links are zero, and so are those of short ephemerons whose keys aren't found
   abbrev pub objects_judged : Map Object
   objects_judged = cleared (placed place ephemerons.short) found (cleared (placed place old.short) found old.objects)
 
+  -- the ephemerons by which it judges: all but those short ones
   abbrev pub ephemerons_judged : Ephemerons
   ephemerons_judged = record { short = with_targets ephemerons.short found; long = ephemerons.long }
 
   abbrev pub HoldsThen : (ℕ → Type 0) → ℕ → Type 0
   HoldsThen = Holds place value objects_judged (IsOfKey ephemerons_judged)
 
-  -- it is an unreachable registered object
+  -- the object is registered and unreachable
   abbrev pub IsLost : ℕ → Type 0
   IsLost a = (r : Registration) × IsUnfound place old found a r
 
-  -- it is one of another kind than unreachable
+  -- the same, and its kind isn't the kind unreachable
   abbrev pub IsLostEarly : (ℕ → Bool) → ℕ → Type 0
   IsLostEarly late a = IsLost a × IsFalse (late a)
 
-  -- an unreachable registered object reaches it first, by its kind; its own ephemerons are no first step of an object
+  -- a first step of an unreachable registered object, by the kind of this object; the values of its own ephemerons are no first steps
   abbrev pub IsFirst : ℕ → Type 0
   IsFirst a = (o : ℕ) × (r : Registration) × IsUnfound place old found o r × LeadsFirst objects_judged o r.kind a
 
@@ -42,7 +42,7 @@ module _ (place : ℕ → Option ℕ) (value : Map Object → ℕ → Option ℕ
   abbrev pub IsHeldFirst : ℕ → Type 0
   IsHeldFirst = HoldsThen (λ a. IsTrue (found a) ⊎ IsFirst a)
 
-  -- the same with the unreachable registered objects of other kinds than unreachable
+  -- the same, with the unreachable registered objects themselves that aren't of the kind unreachable
   abbrev pub IsHeldEarly : (ℕ → Bool) → ℕ → Type 0
   IsHeldEarly late = HoldsThen (λ a. IsTrue (found a) ⊎ (IsFirst a ⊎ IsLostEarly late a))
 
@@ -50,7 +50,7 @@ module _ (place : ℕ → Option ℕ) (value : Map Object → ℕ → Option ℕ
   abbrev pub IsRetained : ℕ → Type 0
   IsRetained = HoldsThen (λ a. IsTrue (found a) ⊎ IsLost a)
 
-  -- a registration whose object is unreachable, and isn't led to; one of the kind unreachable not even by the objects of other kinds
+  -- a registration whose object is unreachable, and which `IsHeldFirst` doesn't hold; one of the kind unreachable `IsHeldEarly` doesn't hold either
   pub record IsPickedThen (late : ℕ → Bool) (p : Pick) : Type 0 where
     pub registration : Registration
     pub object : Object
@@ -67,8 +67,8 @@ module _ (place : ℕ → Option ℕ) (value : Map Object → ℕ → Option ℕ
     pub whole : Exact → (o : ℕ) (r : Registration) → IsUnfound place old found o r → (IsHeldFirst o → ⊥) → (IsTrue (late o) → IsHeldEarly late o → ⊥)
         → Contains (map (λ (p : Pick). p.obj) picks) o
 
--- what a pass with this found set queues, with successive numbers, and the state after it. If marking is exact, it queues and retains just this; otherwise it
--- queues no more than that, and retains no less. Ephemerons go as links go whose targets are their keys
+-- what a pass with this found set queues, with successive numbers, and the state after it. If marking is exact, it queues and retains exactly this; otherwise
+-- it queues no more, and retains no less. An ephemeron is removed when a link of its kind at the same word would be whose target is the key.
 pub record DecidesWhole (Exact : Type 0) (place : ℕ → Option ℕ) (value : Map Object → ℕ → Option ℕ) (late : ℕ → Bool) (pass first : ℕ)
     (old : Parts) (ephemerons : Ephemerons) (found : ℕ → Bool) (new : Parts) (new_ephemerons : Ephemerons) (queue new_queue : List Entry) : Type 0 where
   pub picks : List Pick

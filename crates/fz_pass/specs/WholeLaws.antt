@@ -36,7 +36,7 @@ KeysFindNothing place value objects ephemerons =
     → Settles place value objects (IsOfKey (without_key ephemerons key)) (Unit {0}) marked found_without
     → IsTrue (found key) ↔ IsTrue (found_without key)
 
--- without ephemerons marks that are closed are whole, and nothing else is marked, if marking is exact
+-- without ephemerons closed marks are whole: if marking is exact, making them whole marks nothing else
 abbrev pub NothingSettles : (ℕ → Option ℕ) → (Map Object → ℕ → Option ℕ) → Map Object → Type 0
 NothingSettles place value objects =
     (marked found : ℕ → Bool) → IsClosed objects marked
@@ -69,7 +69,7 @@ pub record IsSafeWhole (place : ℕ → Option ℕ) (old : Parts) (ephemerons : 
   pub short : (link target : ℕ) → get old.short link ≡ Some target → IsTrue (found target) → IsTrue (is_held place old.objects (contains_key new.objects) link) → get new.short link ≡ Some target
   -- and so does a short ephemeron of a found key
   pub keyed : (word key : ℕ) → get ephemerons.short word ≡ Some key → IsTrue (found key) → IsTrue (is_held place old.objects (contains_key new.objects) word) → get new_ephemerons.short word ≡ Some key
-  -- a retained object is unchanged, if all links in its words have targets that were found or are retained, and all ephemerons such keys
+  -- a retained object is unchanged, if all links in its words have targets that were found or are retained, and all ephemerons in its words have such keys
   pub same : (a : ℕ) (o : Object) → get old.objects a ≡ Some o → IsTrue (contains_key new.objects a)
       → ((word : ℕ) → a ≤ word → word < a + length o.words
       → LeadsTo (placed place old.short) word found × LeadsTo (placed place old.long) word (contains_key new.objects)

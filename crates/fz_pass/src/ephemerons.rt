@@ -22,7 +22,7 @@ use fz_table::Pairs;
 use std::alloc::Global;
 use std::marker::Model;
 
-/// Ephemerons: words whose values are retained only as long as the objects in which the words lie and their keys are.
+/// Ephemerons: words whose values are retained only as long as both their keys and the objects in which the words lie are retained.
 pub struct Ephemerons {
     /// The short ones: from the word of each to its key.
     short: Links,
@@ -72,8 +72,8 @@ impl Ephemerons {
         }
     }
 
-    /// Makes a word an ephemeron of a key, in place of the one that it may be. The host has to ensure that the key is an object. Fails with `NoMemory` if a new
-    /// ephemeron, or one that changes its kind, needs room that can't be allocated.
+    /// Makes a word an ephemeron of a key. If it is one already, this replaces it. The host has to ensure that the key is an object. Fails with `NoMemory` if a
+    /// new ephemeron, or one that changes its kind, needs room that can't be allocated.
     pub fn register(&mut self, kind: LinkKind, word: Addr, key: Addr) -> Result<LinkAnswer, Refusal>
         requires place { IsFalse (lacks_place (of_kind self.old.ephemerons kind) word) }
         ensures refused { IfErr result (λ r. r ≡ Refusal.NoMemory) }
@@ -187,8 +187,8 @@ impl Ephemerons {
         }
     }
 
-    /// Makes the marks whole: marks the value of each ephemeron whose key and holder are marked, and everything that it reaches, until no more follow. Then marked
-    /// objects hold nothing else, as a pass requires. A host that marks in slices may call it after each. Takes no memory.
+    /// Makes the marks whole: marks the value of each ephemeron whose key and holder are marked, with everything that the value reaches, until no more values
+    /// follow. Then marked objects hold nothing that is unmarked, as a pass requires. A host that marks in slices may call it after each slice. Takes no memory.
     pub fn settle<H: Values>(&mut self, host: &mut H)
         requires closed { IsClosed (H.objects host.old) (H.marked host.old) }
         ensures settled { Settles H.place H.value (H.objects host.old) (IsOfKey self.old.ephemerons) H.is_exact (H.marked host.old) (H.marked host.new) }

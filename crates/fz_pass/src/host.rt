@@ -50,7 +50,7 @@ pub trait Host {
         ensures marked { Marks is_exact (objects self.old) (marked self.old) (marked self.new) (Leads (objects self.old) object) }
         ensures same { is_same self.old self.new };
 
-    /// Marks an object, of which everything else that it reaches is marked already.
+    /// Marks one object, and nothing that it reaches: everything else that it reaches is marked already.
     fn mark_alone(&mut self, object: Addr)
         requires object { IsTrue (contains_key (objects self.old) object) }
         requires closed { IsClosed (objects self.old) (marked self.old) }
@@ -83,11 +83,11 @@ pub trait Host {
     ghost apart: { StandApart place };
 }
 
-/// A heap with marks that has ephemerons, too: words whose values are marked only if their holders and their keys are.
+/// A heap with marks that also has ephemerons: words whose values are marked only if their holders and their keys are marked.
 ///
 /// The host doesn't scan the word of an ephemeron with the object in which it lies. If it does, the value is marked with that object, whatever the key.
 pub trait Values: Host {
-    /// The object to which the word of an ephemeron points, if any, by the host's objects.
+    /// The object to which the word of an ephemeron points, if any, as a function of the host's objects.
     ghost value: { Map Object → ℕ → Option ℕ };
 
     /// Marks the object to which the word of an ephemeron points, and everything that it reaches. Returns whether this may have marked anything: after true the

@@ -11,7 +11,7 @@ use fz_links::Links;
 use fz_model::Addr;
 use std::mem;
 
-/// Marks the value of an ephemeron, if its key and its holder are marked. If not, it is put off. Returns whether something may have been marked.
+/// Marks the value of an ephemeron, if its key and its holder are marked, and otherwise puts the ephemeron off. Returns whether something may have been marked.
 fn settle_one<H: Values>(host: &mut H, word: Addr, key: Addr, rest: &mut Vec<(Addr, Addr)>) -> bool
     requires closed { IsClosed (H.objects host.old) (H.marked host.old) }
     requires room { vec_len rest.old < vec_capacity rest.old }
@@ -55,8 +55,8 @@ fn settle_round<H: Values>(
 
 /// Marks the values of the waiting ephemerons whose holders and keys are marked, until no more are marked.
 ///
-/// Each round but the last lets one through, so there are at most as many rounds as ephemerons, and one more. A chain of them in the order of the list or against
-/// it takes three.
+/// Each round but the last marks the value of at least one ephemeron. So there is at most one round more than there are ephemerons. A chain of ephemerons in
+/// the order of the list, or in the opposite order, takes three rounds.
 pub(crate) fn settle_waiting<H: Values>(
     host: &mut H,
     waiting: &mut Vec<(Addr, Addr)>,

@@ -61,13 +61,13 @@ fn queue_tiers_whole<H: Values>(
 }
 
 /// Carries out a pass whose found set is the marked objects, as `decide` does, over a heap with ephemerons: it picks and retains by what sets of objects hold
-/// (`specs/Holds.antt`). Requires that marked objects hold nothing else: call `Ephemerons::settle` before.
+/// (`specs/Holds.antt`). Requires that marked objects hold nothing that is unmarked: call `Ephemerons::settle` before.
 ///
-/// Short ephemerons whose keys aren't found are cleared and removed with the short links, before anything is picked, and long ones whose keys aren't retained with
-/// the long links. After each step that marks objects, the value of each ephemeron whose key and holder are marked is marked, with everything that it
-/// reaches, until no more follow. No object leads to the values of its own ephemerons: as a key it leads nowhere.
+/// Short ephemerons whose keys aren't found are cleared and removed with the short links, before anything is picked. Long ones whose keys aren't retained are
+/// cleared and removed with the long links. After each step that marks objects, the value of each ephemeron whose key and holder are marked is marked, with
+/// everything that the value reaches, until no more values follow. A key alone doesn't lead to the values of its ephemerons.
 ///
-/// Takes no memory, as `decide` does. Each of the three times it looks at each ephemeron once, and again only while values are marked.
+/// Like `decide`, takes no memory. After each of the three steps that mark objects it looks at each ephemeron once, and again only while values are marked.
 pub fn decide_whole<H: Values>(
     host: &mut H,
     table: &mut Table,

@@ -6,7 +6,7 @@ ghost use Rattle.fz_table.specs.Tabled.{counted, shown};
 
 use fz_model::{Finalizer, RegKind, Registration, Word};
 
-/// A registration, and whether it is of the kind unreachable (gc.h). The flag has a place of its own beside the kind, of which the model has three.
+/// A registration, and whether it is of the kind unreachable (gc.h). The flag is a field beside the kind, since the model has only three kinds.
 #[derive(Clone, Copy, Debug, PartialEq, Eq)]
 pub struct Stored {
     /// The registration's number.
@@ -15,7 +15,7 @@ pub struct Stored {
     pub proc: u64,
     /// The client data.
     pub cd: Word,
-    /// Which objects the registered object reaches first: for the kind unreachable those of a normal one.
+    /// Which objects the registered object reaches first. For the kind unreachable these are the same as for the kind normal.
     pub kind: RegKind,
     /// Among registrations queued by one pass, lower ranks come first.
     pub rank: u8,

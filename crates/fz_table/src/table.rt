@@ -257,7 +257,7 @@ impl Table {
         self.next_number
     }
 
-    /// Uses up the number that the next registration would get, for something else, and returns it.
+    /// Returns the number that the next registration would get, and uses it up, so that a cleanup can have it.
     pub fn take_number(&mut self) -> u64
         requires few { self.old.next_number < COUNT_LIMIT }
         ensures number { result ≡ self.old.next_number }

@@ -1,4 +1,4 @@
--- What the answers say of passes.
+-- What the results of `why` say of passes.
 -- code: fz_why/src/law.rt
 use Rattle.std.specs.Prelude.{◌≡◌, ◌≢◌, ℕ, ◌⊎◌, Bool, false, List, map, Option, Some, Contains}
 use Rattle.std.specs.FinMap.{get}
@@ -25,12 +25,12 @@ IsNotQueuedBy place objects s found o =
     (new : State) (left : Map Object) (marked : ℕ → Bool) (pass : ℕ) (d : DecidesFor ⊥ place pass s objects found new left marked) → Contains (map (λ (p : Pick). p.obj) d.picks) o → ⊥
 
 module _ (place : ℕ → Option ℕ) (objects : Map Object) (roots : List ℕ) (s : State) where
-  -- it is unreachable, and an unreachable registered object holds it back: itself, on a ring, or another
+  -- it is unreachable, and an unreachable registered object holds it back: the object itself, if it is on a ring, or another object
   abbrev pub IsHeldBack : ℕ → Type 0
   IsHeldBack o =
       WithFound objects roots s (λ found. ((r : Registration) × IsUnfound place objects s found o r) × (HoldsBack place objects s found false o o ⊎ ((from : ℕ) × WaitsFor place objects s found o from)))
 
-  -- what the answer says of the object, whatever its path
+  -- what the result says of the object, without its path
   abbrev pub StandsBy : Reason → ℕ → Type 0
   StandsBy Unregistered o = (r : Registration) → get s.registrations o ≢ Some r
   StandsBy (Queued entry) o = (r : Registration) → get s.registrations o ≢ Some r
@@ -39,7 +39,7 @@ module _ (place : ℕ → Option ℕ) (objects : Map Object) (roots : List ℕ) 
   StandsBy (Waits path) o = IsHeldBack o
   StandsBy Ready o = WithFound objects roots s (λ found. IsReady place objects s found o)
 
-  -- an answer of a path says so; of a registered object no two of found, ring or waits, and ready hold
+  -- a result whose path is right is true of the object. No two of these are true of a registered object: found, ring or waits, ready.
   pub record IsApart (o : ℕ) : Type 0 where
     pub told : (reason : Reason) → IsToldOf place objects roots s reason o → StandsBy reason o
     pub held : IsReached objects roots s o → IsHeldBack o → ⊥

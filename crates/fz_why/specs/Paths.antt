@@ -27,7 +27,7 @@ pub record ArePointers (objects : Map Object) (a : ℕ) (pointers : List Pointer
 abbrev pub AreLinks : (ℕ → Option ℕ) → (ℕ → Option ℕ) → Type 0
 AreLinks place link = (number word : ℕ) → (link word ≡ Some number) ↔ (place number ≡ Some word)
 
--- a path from one to another, without its beginning: by one step after the other, the last of which is to the other
+-- a path from one object to another. The list has the objects after the first, each one step after the object before it; the last is the end of the path.
 abbrev pub IsPath : (ℕ → ℕ → Type 0) → ℕ → List ℕ → ℕ → Type 0
 IsPath Step from [] to = from ≡ to
 IsPath Step from (next ∷ rest) to = Step from next × IsPath Step next rest to

@@ -55,7 +55,7 @@ pub record AreCells (objects : Map Object) (cells : Cells) : Type 0 where
 abbrev pub is_same : Option ℕ → ℕ → Bool
 is_same o n = option_map_or (λ m. nat_eq m n) o false
 
--- what one function has at x, if the other leads back from there
+-- the value of the first function at x, if the second function maps it back to x
 abbrev pub back : (ℕ → Option ℕ) → (ℕ → Option ℕ) → ℕ → Option ℕ
 back f g x = option_and_then (λ y. if is_same (g y) x then Some y else None) (f x)
 
@@ -81,7 +81,7 @@ abbrev pub is_taken : Cells → Links → ℕ → Option ℕ → Bool
 is_taken cells links word link =
     nat_eq word 0 || nat_eq word (2 ^ 64 - 1) || is_some (lookup (nat_eq word) cells) || option_map_or (λ number. is_some (word_of links number)) link false
 
--- the same links, and one that denotes a word
+-- the same links, with one more that denotes the word
 abbrev pub links_to : Option ℕ → ℕ → (ℕ → Option ℕ) → ℕ → Option ℕ
 links_to link word place number = if is_same link number then Some word else place number
 
@@ -94,7 +94,7 @@ pub record Lists (cells new_cells : Cells) (links new_links : Links) (word : ℕ
 abbrev pub Keeps : Cells → Cells → Links → Links → Type 0
 Keeps cells new_cells links new_links = (new_cells ≡ cells) × (new_links ≡ links)
 
--- by the answer, what was to be done is done, or nothing is
+-- if the result is true, the first holds; if it is false or an error, the second
 abbrev pub DoesOrNot : {E : Type 0} → Result Bool E → Type 0 → Type 0 → Type 0
 DoesOrNot (Ok true) done not_done = done
 DoesOrNot (Ok false) done not_done = not_done
@@ -105,7 +105,7 @@ pub record IsPut {X : Type 0} (old new : List (ℕ × X)) (key : ℕ) (x : X) : 
   pub at_end : new ≡ old ++ (key, x) ∷ []
   pub found : (q : ℕ) → lookup (nat_eq q) new ≡ (if nat_eq key q then Some x else lookup (nat_eq q) old)
 
--- a word may be listed next: it is free, as its link is, and comes right after the words of its object
+-- a word may be listed next: its address and its link are free, and it comes right after the last word of its object
 pub record IsNext (cells : Cells) (links : Links) (word : ℕ) (c : Cell) : Type 0 where
   pub free : lookup (nat_eq word) cells ≡ None
   pub unlinked : (number : ℕ) → c.link ≡ Some number → lookup (nat_eq number) links ≡ None

@@ -66,7 +66,7 @@ pub record SpreadsAll (Step : ℕ → ℕ → Type 0) (old new : Trail) : Type 0
   pub each : (k : ℕ) (x : ℕ × Origin) → slice_get new k ≡ Some x → (slice_get old k ≡ Some x) ⊎ IsAfter Step new k x
   pub whole : (a b : ℕ) → IsTrue (has new a) → Step a b → IsTrue (has new b)
 
--- a word doesn't count: it is a short link's whose target isn't on the trail of what was found; without such a trail each counts
+-- a word doesn't count: it is the word of a short link whose target isn't on the trail of what was found. Without such a trail each word counts.
 abbrev pub is_cut : (ℕ → Option ℕ) → State → Option Trail → ℕ → Bool
 is_cut link s None word = false
 is_cut link s (Some found) word = option_map_or (λ number. option_map_or (λ target. not (has found target)) (get s.short number) false) (link word) false
@@ -179,18 +179,18 @@ IsByCircle place objects s found from origin b =
 abbrev pub IsByCircles : (ℕ → Option ℕ) → Map Object → State → (ℕ → Bool) → Origin → ℕ → Type 0
 IsByCircles place objects s found origin b = (from : ℕ) × IsByCircle place objects s found from origin b
 
--- an object isn't on the one trail, and is on the other; the same of a registered one
+-- an object isn't on the first trail, and is on the second; the same of a registered object
 abbrev pub is_behind : Trail → Trail → ℕ → Bool
 is_behind found reached o = not (has found o) && has reached o
 
 abbrev pub is_stuck_by : State → Trail → Trail → ℕ → Bool
 is_stuck_by s found reached o = contains_key s.registrations o && is_behind found reached o
 
--- the path by which an object holds itself back, or that it doesn't
+-- the path by which an object holds itself back, or none if it doesn't
 abbrev pub TellsRing : (ℕ → Option ℕ) → Map Object → State → (ℕ → Bool) → ℕ → Option (List ℕ) → Type 0
 TellsRing place objects s found o told = MatchOption told (HoldsBack place objects s found false o o → ⊥) (λ path. IsBackPath place objects s found false o path o)
 
--- the path by which another object holds it back, or that none does
+-- the path by which another object holds it back, or none if no object does
 abbrev pub TellsWait : (ℕ → Option ℕ) → Map Object → State → (ℕ → Bool) → Bool → ℕ → Option (List ℕ) → Type 0
 TellsWait place objects s found late o told =
     MatchOption told ((from : ℕ) → (from ≢ o) × HoldsBack place objects s found late from o → ⊥) (λ path. (from : ℕ) × (from ≢ o) × IsBackPath place objects s found late from path o)

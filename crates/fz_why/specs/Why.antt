@@ -1,4 +1,5 @@
--- Why an object isn't finalized. Words are as they are once a pass has cleared those of its dead short links; roots reach by the words as they are.
+-- Why an object isn't finalized. What roots reach is judged by the words as they are. Everything else is judged by the words as they will be once a pass has
+-- cleared those of its dead short links.
 -- code: fz_why/src/asking.rt, reaching.rt, rooting.rt, stuck_objects.rt
 use Rattle.std.specs.Prelude.{◌≡◌, ◌≢◌, ℕ, Bool, true, false, List, ◌∷◌, filter, slice_get, Option, Some, None, Contains}
 use Rattle.std.specs.FinMap.{get}
@@ -21,7 +22,7 @@ use Rattle.fz_why.specs.declared.reason.Reason.{Reason}
 use Rattle.fz_why.specs.declared.reason.Reason.TheVariants.{Unregistered, Queued, Found, Ring, Waits, Ready}
 use Rattle.fz_why.specs.Paths.{IsPath}
 
--- the word of a root: one of the host's own, the client data of a registration or of a cleanup, or the object or the client data of an entry that isn't finished
+-- the word of a root: a root of the host, the client data of a registration or of a cleanup, or the object or the client data of an unfinished entry
 abbrev pub IsRootWord : List ℕ → State → RootOf → ℕ → Type 0
 IsRootWord roots s (Host index) word = slice_get roots index ≡ Some word
 IsRootWord roots s (RegisteredData number) word = (o : ℕ) × (r : Registration) × (get s.registrations o ≡ Some r) × (r.number ≡ number) × (r.cd ≡ word)
@@ -63,7 +64,7 @@ module _ (place : ℕ → Option ℕ) (objects : Map Object) (s : State) (found 
     pub step : LeadsFirst (cleared (placed place s.short) found objects) from (kind_toward late by.kind) first
     pub leads : Leads (cleared (placed place s.short) found objects) first o
 
-  -- a path by which it does
+  -- a path by which it reaches the other
   pub record IsBackPath (late : Bool) (from : ℕ) (path : List ℕ) (o : ℕ) : Type 0 where
     pub by : Registration
     pub unfound : IsUnfound from by
@@ -81,27 +82,27 @@ module _ (place : ℕ → Option ℕ) (objects : Map Object) (s : State) (found 
   abbrev pub IsRing : List ℕ → ℕ → Type 0
   IsRing path o = ((r : Registration) × IsUnfound o r) × IsBackPath false o path o
 
-  -- it is unreachable and on no ring, and a path leads to it from another
+  -- it is registered, unreachable and on no ring, and a path leads to it from another unreachable registered object
   abbrev pub IsWaiting : List ℕ → ℕ → Type 0
   IsWaiting path o = ((r : Registration) × IsUnfound o r) × (HoldsBack false o o → ⊥) × ((from : ℕ) × (from ≢ o) × IsBackPath (contains s.late o) from path o)
 
-  -- it is unreachable, and no such object reaches it
+  -- it is registered and unreachable, and no unreachable registered object reaches it by a first step that counts
   abbrev pub IsReady : ℕ → Type 0
   IsReady o = ((r : Registration) × IsUnfound o r) × (HoldsBack false o o → ⊥) × ((from : ℕ) → WaitsFor o from → ⊥)
 
-  -- it is unreachable, and on a ring, or one on a ring holds it back
+  -- it is registered and unreachable, and an object on a ring holds it back, which may be the object itself
   abbrev pub IsStuck : ℕ → Type 0
   IsStuck o = ((r : Registration) × IsUnfound o r) × ((from : ℕ) × HoldsBack false from from × HoldsBack false from o)
 
-  -- of these registrations just the objects that are stuck, in their order
+  -- exactly the objects of these registrations that are stuck, in the order of the registrations
   abbrev pub AreStuck : List (ℕ × Registration) → List ℕ → Type 0
   AreStuck registrations objects = (is_stuck : ℕ → Bool) × Computes is_stuck IsStuck × (objects ≡ filter is_stuck (keys_of registrations))
 
--- something holds with what the roots reach as the found set
+-- the predicate is true of the found set that consists of what the roots reach
 abbrev pub WithFound : Map Object → List ℕ → State → ((ℕ → Bool) → Type 0) → Type 0
 WithFound objects roots s Holds = (found : ℕ → Bool) × Computes found (IsReached objects roots s) × Holds found
 
--- the answer is true of the object, by its path
+-- the result is true of the object, and its path shows it
 abbrev pub IsToldOf : (ℕ → Option ℕ) → Map Object → List ℕ → State → Reason → ℕ → Type 0
 IsToldOf place objects roots s Unregistered o = (get s.registrations o ≡ None) × ((e : Entry) → Contains (unfinished s) e → e.obj ≢ o)
 IsToldOf place objects roots s (Queued entry) o = (get s.registrations o ≡ None) × Contains (unfinished s) entry × (entry.obj ≡ o)

@@ -26,9 +26,10 @@ pub enum Reason {
     Queued(Entry),
     /// It is reachable. The path begins at the object to which the root points, and ends at the object.
     Found(RootOf, Vec<Addr>),
-    /// It is unreachable, and a path leads to it from itself, which begins and ends with it. Its first step is one that its kind counts.
+    /// It is unreachable, and a path leads from the object back to itself. The path begins and ends with the object, and its first step is one that the
+    /// object's kind counts.
     Ring(Vec<Addr>),
-    /// It is unreachable and on no ring. The path leads to it from another unreachable object with a finalizer. Its first step is one that counts.
+    /// It is unreachable and on no ring. The path leads to it from another unreachable object with a finalizer, by a first step that counts.
     Waits(Vec<Addr>),
     /// A pass queues it.
     Ready,

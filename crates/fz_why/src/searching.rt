@@ -11,7 +11,7 @@ use crate::trail::Trail;
 use fz_finalizers::{Finalizers, LinkKind};
 use fz_model::{Addr, RegKind};
 
-/// Whether a word doesn't count, since it is a short link's whose target wasn't found. Where nothing was looked for yet, each word counts.
+/// Whether a word doesn't count, since it is the word of a short link whose target wasn't found. Before the search for what is found, each word counts.
 fn is_cut<H: Paths>(finalizers: &Finalizers, host: &H, found: Option<&Trail>, word: Addr) -> bool
     ensures { result ≡ is_cut (H.link host.now) finalizers.now.state (option_copied found.entry) word }
 {

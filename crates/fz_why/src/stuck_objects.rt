@@ -143,10 +143,10 @@ fn list(
     Ok(objects)
 }
 
-/// Lists the registered objects that wait for a ring: those on one, and those to which one leads. No pass queues them as long as their words and registrations
-/// stay. Each is listed once, in the order of `Finalizers::iter`.
+/// Lists the registered objects that wait for a ring: those on a ring, and those to which one leads. No pass queues them as long as their words and
+/// registrations stay. Each is listed once, in the order of `Finalizers::iter`.
 ///
-/// Like [`why`](crate::why), it may be called at any time outside of a pass, sees words as they are once dead short links are cleared, and requires that
+/// Like [`why`](crate::why), it may be called at any time outside of a pass. It takes words as they are once dead short links are cleared, and requires that
 /// registered objects and the targets of links are the host's objects.
 ///
 /// Takes the time of `why` for each unreachable registered object, and memory for each object that is reached. Fails with `NoMemory` if an allocation fails.
@@ -168,7 +168,8 @@ pub fn stuck<H: Paths>(
     Ok(objects)
 }
 
-/// Lists the registered objects that wait for a ring, by a copy of their host's heap, as [`stuck`] does. The copy has to have what [`why_of`](crate::why_of) needs.
+/// Lists the registered objects that wait for a ring, by a copy of their host's heap, as [`stuck`] does. The copy has to have what
+/// [`why_of`](crate::why_of) needs.
 ///
 /// `None` if a registered object or the target of a short link wasn't listed. Fails with `NoMemory` if an allocation fails. Nothing changes in any case.
 pub fn stuck_of(

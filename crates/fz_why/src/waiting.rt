@@ -44,7 +44,7 @@ fn add_other<H: Paths>(
     Ok(())
 }
 
-/// Adds the first steps of the unreachable registered objects, but for those of the object itself.
+/// Adds the first steps of the unreachable registered objects other than this object.
 fn add_others<H: Paths>(
     finalizers: &Finalizers,
     host: &H,
@@ -119,7 +119,7 @@ pub(crate) fn ring<H: Paths>(
     }
 }
 
-/// A path by which another unreachable registered object reaches it, by a first step that counts.
+/// A path by which another unreachable registered object reaches the object, by a first step that counts.
 pub(crate) fn wait<H: Paths>(
     alloc: Global,
     finalizers: &Finalizers,

@@ -1,4 +1,4 @@
--- What follows of a world's calls and of what its readers return, in other words. These laws test the definitions.
+-- What follows about a world's calls and its readers, in other words than their definitions. These laws test the definitions.
 -- code: fz_world/src/law.rt
 use Rattle.std.specs.Prelude.{◌≡◌, ◌≢◌, ℕ, Bool, ◌⊎◌, Result, Ok, Err, IsTrue, IsFalse}
 use Rattle.std.specs.FinSet.{contains}

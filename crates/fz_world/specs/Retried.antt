@@ -8,8 +8,8 @@ use Rattle.fz_model.specs.declared.call.Call.{Call}
 use Rattle.fz_model.specs.declared.call.Call.TheVariants.{Collect}
 use Rattle.fz_model.specs.declared.call.Reply.{Reply}
 
--- the call alone, if it doesn't fail with NoSpace; or a collection, which fails too; or a collection, the work, and the call once more; a failed call changes
--- nothing, so each collection starts from the old state
+-- one of three: the call alone, if it doesn't fail with NoSpace; or the call and a collection that both fail; or the call, a collection, the work, and the call
+-- once more. A failed call changes nothing, so each collection starts from the old state.
 pub data TriesTwice {S : Type 0} (Makes : S → Call → Result Reply Refusal → S → Type 0) (Works : S → S → Type 0) (call : Call) (old : S) (result : Result Reply Refusal) (new : S) : Type 0 where
   Once : result ≢ Err NoSpace → Makes old call result new → TriesTwice Makes Works call old result new
   NotCollected : (refusal : Refusal) → Makes old call (Err NoSpace) old → Makes old Collect (Err refusal) new → result ≡ Err refusal → TriesTwice Makes Works call old result new

@@ -1,5 +1,5 @@
--- The model of a world: the state of the model without the history of an open cycle; of the last cycle the marked and the scanned objects, the dirty pages,
--- and the number of scans; and from which number on its queue shows entries, and how many are in memory.
+-- The model of a world. It has the state of the model without the history of an open cycle. Of the last cycle it has the marked and the scanned objects, the
+-- dirty pages, and the number of scans. Of the queue it has the number from which on entries are shown, and how many entries are in memory.
 -- code: fz_world/src/world.rt, fz_world/src/objects.rt
 use Rattle.std.specs.Prelude.{◌≡◌, ℕ, ◌+◌, ◌<◌, ◌≤◌, Bool, List, if◌then◌else◌, IsTrue, length, refl}
 use Rattle.std.specs.Coded.{Coded, code_by, coded×, coded_ℕ}

@@ -137,7 +137,7 @@ fn a_guardian_saves_a_record(rt: HostRuntime) {
     );
 }
 
-/// A pair that denotes another record lets go of the first one.
+/// A pair that is set to another record no longer has the first one.
 #[test]
 fn a_pair_changes_its_record(rt: HostRuntime) {
     let mut runtime = Runtime::new(rt.alloc(), 4).expect(&rt, "memory");

@@ -1,4 +1,5 @@
-//! Finalizers that ask for the marks of regions, beside the same that ask about each object: they queue the same entries, clear the same words, and mark the same.
+//! Finalizers that ask for the marks of regions, beside finalizers that ask about each object: both queue the same entries, clear the same words, and mark the
+//! same objects.
 
 use crate::equal::must_be;
 use crate::hosts::beside::Random;
