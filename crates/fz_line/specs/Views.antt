@@ -1,5 +1,5 @@
--- What each side of the line knows, and how the owner distributes the lists of the seats. The owner begins with eight empty lists. A seat that is opened gets
--- one of them; the lists of seats that are never opened stay with the owner.
+-- What each side of the line knows, and how the owner distributes the lists of the seats. The owner begins with eight empty lists. It gives one of them to each
+-- seat that is opened, and keeps the lists of seats that are never opened.
 -- code: fz_line/src/protocol.rt, opening.rt, drain.rt
 use Rattle.std.specs.Prelude.{ℕ, ◌+◌, ◌^◌, List, [], ◌∷◌, ◌++◌, replicate, Bool, true, false}
 use Rattle.fz_model.specs.declared.answers.Entry.{Entry}

@@ -56,7 +56,7 @@ abbrev pub is_forfeit : Result StepReply Refusal → Bool
 is_forfeit (Ok Forfeited) = true
 is_forfeit _ = false
 
--- the result has everything of the reply that the report needs
+-- the result has every part of the reply that the report shows
 pub record Tells (e : JointEvent) (reply : Result (JointAnswer e) Refusal) (result : Result StepReply Refusal) : Type 0 where
   pub words : result_words result ≡ reply_words e reply
   pub refused : is_err result ≡ is_err reply

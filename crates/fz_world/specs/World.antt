@@ -84,7 +84,7 @@ NotesWritten old address new = new ≡ record old { core = new.core; noted = wit
 abbrev pub HasNoUnreachable : State → Type 0
 HasNoUnreachable s = s.late ≡ sets.empty
 
--- and all entries are taken: a world holds what a pass queues at once
+-- the same, and all entries are taken: a world holds an entry as soon as a pass queues it
 pub record IsPlain (s : State) : Type 0 where
   pub none : HasNoUnreachable s
   pub taken : s.taken ≡ length s.queue
