@@ -522,6 +522,16 @@ def is_whole(rows):
                 check(sorted(told.get(call, ())), sorted(codes), f'the codes of {call} in the table')
 
 
+def are_freed():
+    """A world and finalizers outside of a `with` are destroyed when Python frees them."""
+    for make in (World, over.Finalizers):
+        LIBRARY.noted_start(b'\0', 1, 0)
+        made = make()
+        check(LIBRARY.noted_open(), 1, 'handles of what was made')
+        del made
+        check(LIBRARY.noted_open(), 0, 'handles of what Python freed')
+
+
 def main():
     rows = [Row(line.rstrip('\n')) for line in open(os.path.join(HERE, 'wrappers.txt')) if line.strip() and line[0] != '#']
     is_whole(rows)
@@ -529,6 +539,7 @@ def main():
     check({row.call for row in own}, set(MEMBERS), 'the calls of the table')
     for row in own:
         row.try_all()
+    are_freed()
     print(f'{checks} checks, {failures} failed')
     sys.exit(failures > 0)
 

@@ -1,7 +1,8 @@
 -- Seats that went to threads in slots, and came back.
-use Rattle.std.proofs.Common.{◌≡◌, ◌≢◌, ℕ, zero, suc, ◌<◌, List, [], ◌∷◌, ◌++◌, length, map, get_or, slice_get, set, Option, Some, None, refl, sym, ap, ◌∙◌, subst, arith, append_assoc}
+use Rattle.std.proofs.Common.{◌≡◌, ◌≢◌, ℕ, zero, suc, ◌+◌, ◌<◌, List, [], ◌∷◌, ◌++◌, length, map, get_or, slice_get, set, Option, Some, None, IsSomeAnd, ◌≤◌, ⊎_elim, refl, sym, ap, ◌∙◌, subst, arith, append_assoc}
+use Rattle.std.proofs.lemmas.Bool.{cases_eq, cases_lt}
 use Rattle.std.proofs.lemmas.List.{length-map, map-append}
-use Rattle.std.proofs.lemmas.Option.{none-some}
+use Rattle.std.proofs.lemmas.Option.{none-some, same_Some}
 use Rattle.fz_line.specs.States.{SeatState}
 use Rattle.fz_service.specs.Workers.{Extends, ExtendEach, SlotExtends, slots_of, in_slots}
 
@@ -52,6 +53,68 @@ module _ {X : Type 0} (slot : X → Option SeatState) where
 
 -- ---- workers, each with the seat and the list of its place
 
+-- a list that came back has as many procedures
+pub list_back : {X L : Type 0} (procs : X → L) (size : L → ℕ) (went came : List X) → length came ≡ length went
+    → ((i : ℕ) (d : X) → i < length went → size (procs (get_or came i d)) ≡ size (procs (get_or went i d)))
+    → (i : ℕ) (list : L) → slice_get (map procs went) i ≡ Some list → (back : L) × (slice_get (map procs came) i ≡ Some back) × (size back ≡ size list)
+list_back procs size [] came same each i list is = absurd (none-some list is)
+list_back procs size (x ∷ went) [] same each i list is = absurd (omega (arith, same))
+list_back procs size (x ∷ went) (y ∷ came) same each zero list is = (procs y, refl, each 0 x (omega arith) ∙ ap size (same_Some (procs x) list is))
+list_back procs size (x ∷ went) (y ∷ came) same each (suc i) list is =
+    list_back procs size went came (omega (arith, same)) (λ j d few. each (suc j) d (omega (arith, few))) i list is
+
+-- whatever is at an index is below the length
+pub within : {X : Type 0} (xs : List X) (i : ℕ) (x : X) → slice_get xs i ≡ Some x → i < length xs
+within [] i x is = absurd (none-some x is)
+within (y ∷ xs) zero x is = omega arith
+within (y ∷ xs) (suc i) x is = let less = within xs i x is in omega (arith, less)
+
+-- one list more came back
+pub one_back : {L : Type 0} (all before after : List L) (number : ℕ) (list : L) → length after ≡ length before → slice_get all number ≡ Some list
+    → (number < length before → slice_get after number ≡ Some list)
+    → ((i : ℕ) → i ≢ number → slice_get after i ≡ slice_get before i)
+    → ((i : ℕ) (l : L) → slice_get all i ≡ Some l → i < number → i < length before → slice_get before i ≡ Some l)
+    → (i : ℕ) (l : L) → slice_get all i ≡ Some l → i < number + 1 → i < length after → slice_get after i ≡ Some l
+one_back all before after number list count first put others known i l is less few =
+    ⊎_elim
+    (λ (same : i ≡ number). ap (slice_get after) same ∙ put (omega (arith, few, count, same)) ∙ sym first ∙ ap (slice_get all) (sym same) ∙ is)
+    (λ (other : i ≢ number). others i other ∙ known i l is (omega (arith, less, other)) (omega (arith, few, count)))
+    (cases_eq i number)
+
+-- one seat was taken out of its slot
+pub slot_out : {X : Type 0} (slot : X → Option SeatState) (xs rest : List X) (x : X) (s : SeatState) (seats : List SeatState) (all : List SeatState) → xs ≡ x ∷ rest → slot x ≡ Some s
+    → seats ++ in_slots (map slot xs) ≡ all → (seats ++ s ∷ []) ++ in_slots (map slot rest) ≡ all
+slot_out slot xs rest x s seats all is here before =
+    append_assoc seats (s ∷ []) (in_slots (map slot rest))
+    ∙ ap (λ (o : Option SeatState). seats ++ in_slots (o ∷ map slot rest)) (sym here)
+    ∙ ap (λ ys. seats ++ in_slots (map slot ys)) (sym is)
+    ∙ before
+
+-- what is left after the first one is one index further on
+pub one_less : {X L : Type 0} (procs : X → L) (xs rest : List X) (x : X) (all : List L) (number : ℕ) → xs ≡ x ∷ rest → ((i : ℕ) → slice_get (map procs xs) i ≡ slice_get all (number + i))
+    → (slice_get all number ≡ Some (procs x)) × ((i : ℕ) → slice_get (map procs rest) i ≡ slice_get all ((number + 1) + i))
+one_less procs xs rest x all number is left = (
+      ap (slice_get all) (omega arith) ∙ sym (left 0) ∙ ap (λ ys. slice_get (map procs ys) 0) is,
+      λ i. ap (λ ys. slice_get (map procs ys) (suc i)) (sym is) ∙ left (suc i) ∙ ap (slice_get all) (omega arith),
+    )
+
+-- each list is where it was, with as many procedures
+pub lists_back : {X L : Type 0} (procs : X → L) (size : L → ℕ) (before between after : List L) (went came : List X) → length between ≡ length before → length came ≡ length went
+    → ((i : ℕ) (list : L) → slice_get before i ≡ Some list → i < length went → slice_get (map procs went) i ≡ Some list)
+    → ((i : ℕ) → length went ≤ i → slice_get between i ≡ slice_get before i)
+    → ((i : ℕ) (d : X) → i < length went → size (procs (get_or came i d)) ≡ size (procs (get_or went i d)))
+    → ((i : ℕ) (list : L) → slice_get (map procs came) i ≡ Some list → i < length between → slice_get after i ≡ Some list)
+    → ((i : ℕ) → length came ≤ i → slice_get after i ≡ slice_get between i)
+    → (i : ℕ) (list : L) → slice_get before i ≡ Some list → IsSomeAnd (slice_get after i) (λ back. size back ≡ size list)
+lists_back procs size before between after went came count same handed left each put kept i list is =
+    ⊎_elim
+    (λ (few : i < length went).
+    let back = list_back procs size went came same each i list (handed i list is few) in
+    let low = within before i list is in
+    subst (λ o. IsSomeAnd o (λ b. size b ≡ size list)) (sym (put i back.0 back.1 (omega (arith, low, count)))) back.2)
+    (λ (past : length went ≤ i). subst (λ o. IsSomeAnd o (λ b. size b ≡ size list)) (sym (kept i (omega (arith, past, same)) ∙ left i past ∙ is)) refl)
+    (cases_lt i (length went))
+
 -- one worker more
 pub one_slot : {X : Type 0} (slot : X → Option SeatState) (xs : List X) (x : X) (s : SeatState) (seats rest all : List SeatState) → slot x ≡ Some s → seats ≡ s ∷ rest
     → map slot xs ++ slots_of seats ≡ slots_of all → map slot (xs ++ x ∷ []) ++ slots_of rest ≡ slots_of all
@@ -72,6 +135,11 @@ one_list procs (y ∷ xs) x lists before here zero list is few = before zero lis
 one_list procs (y ∷ xs) x [] before here (suc i) list is few = absurd (none-some list is)
 one_list procs (y ∷ xs) x (l ∷ lists) before here (suc i) list is few =
     one_list procs xs x lists (λ j other is few. before (suc j) other is (omega (arith, few))) here i list is (omega (arith, few))
+
+pub set_here : {X : Type 0} (xs : List X) (i : ℕ) (x : X) → i < length xs → slice_get (set xs i x) i ≡ Some x
+set_here [] i x few = absurd (omega (arith, few))
+set_here (y ∷ xs) zero x few = refl
+set_here (y ∷ xs) (suc i) x few = set_here xs i x (omega (arith, few))
 
 pub set_other : {X : Type 0} (xs : List X) (i j : ℕ) (x : X) → j ≢ i → slice_get (set xs i x) j ≡ slice_get xs j
 set_other [] i j x other = refl

@@ -17,7 +17,8 @@ use std::sync::{Arc, Wait};
 /// sleeps only if the number hasn't changed since. A waker sends its entries or sets `stop` before it checks for sleepers. All these steps are sequentially
 /// consistent, so either the sleeper sees what was sent, or the waker sees the sleeper.
 ///
-/// That a worker looks after it has listened, and that entries are sent before the bell is rung for them, is required by `sleep` and by `Rung::ring`.
+/// That a worker looks after it has listened, and that entries are sent before the bell is rung for them, is required by `sleep` and by `Rung::ring`. Only a
+/// worker that counts as a sleeper listens and sleeps, and each of them gets up: the type `Sleeper` ensures that.
 #[derive(Drop)]
 pub(crate) struct Bell {
     sleepers: AtomicU64,
@@ -74,9 +75,12 @@ impl<'a> Stop<'a> {
     }
 }
 
-/// The number of rings that a worker has read, as far as a sleep compares it. Only `Bell::listen` makes one.
-#[derive(Clone, Copy)]
-pub(crate) struct Heard(u32);
+/// A worker that counts as a sleeper, and the number of rings that it has read, as far as a sleep compares it.
+///
+/// It can't be copied, cloned or dropped: only `Bell::lie_down` makes one, and only `Bell::get_up` ends it.
+pub(crate) struct Sleeper {
+    heard: u32,
+}
 
 impl Bell {
     pub(crate) fn new() -> Bell {
@@ -109,26 +113,39 @@ impl Bell {
         }
     }
 
-    /// Reads how often the bell was rung while a worker slept.
-    pub(crate) fn listen(&self, diary: &mut Diary) -> Heard
+    /// Counts the caller as a sleeper, until it gets up, and reads how often the bell was rung.
+    pub(crate) fn lie_down(&self, diary: &mut Diary) -> Sleeper
         ensures { diary.new.events ≡ diary.old.events ++ Listened ∷ [] }
     {
-        Heard(diary.listen(&self.rings))
-    }
-
-    /// Counts the caller as a sleeper, until it gets up.
-    pub(crate) fn lie_down(&self) {
         self.sleepers.fetch_add(1, Ordering::SeqCst);
+        Sleeper {
+            heard: diary.listen(&self.rings),
+        }
     }
 
-    pub(crate) fn get_up(&self) {
+    /// Reads again how often the bell was rung.
+    pub(crate) fn listen(&self, sleeper: &mut Sleeper, diary: &mut Diary)
+        ensures { diary.new.events ≡ diary.old.events ++ Listened ∷ [] }
+    {
+        sleeper.heard = diary.listen(&self.rings);
+    }
+
+    pub(crate) fn get_up(&self, sleeper: Sleeper) {
+        let Sleeper { heard: _ } = sleeper;
         self.sleepers.fetch_sub(1, Ordering::SeqCst);
     }
 
-    /// Sleeps until the bell is rung, unless it was rung since this number was read. Requires that the worker has since looked at `stop` and at the line.
-    pub(crate) fn sleep<G: Gate, R: Wait>(&self, heard: Heard, _diary: &Diary, gate: &G, rt: &R)
+    /// Sleeps until the bell is rung, unless it was rung since the sleeper read the number of rings. Requires that the worker has since looked at `stop` and at
+    /// the line.
+    pub(crate) fn sleep<G: Gate, R: Wait>(
+        &self,
+        sleeper: &Sleeper,
+        _diary: &Diary,
+        gate: &G,
+        rt: &R,
+    )
         requires { HasLooked _diary.now.events }
     {
-        gate.park(&self.rings, heard.0, rt);
+        gate.park(&self.rings, sleeper.heard, rt);
     }
 }

@@ -1,12 +1,12 @@
 //! Worker threads.
 
-ghost use Rattle.std.specs.Prelude.{◌≡◌, ◌≢◌, ℕ, ◌<◌, ◌≤◌, [], ◌∷◌, ◌++◌, None, Some, IsSome, IsTrue, length, map, slice_get, slice_index_or, vec_capacity};
+ghost use Rattle.std.specs.Prelude.{◌≡◌, ◌≢◌, ℕ, ◌<◌, ◌≤◌, [], ◌∷◌, ◌++◌, None, Some, IsSome, IsSomeAnd, IsTrue, length, map, slice_get, slice_index_or, vec_capacity};
 ghost use Rattle.fz_service.specs.declared.event.Event.TheVariants.{Told, Listened, FoundEmpty};
 ghost use Rattle.fz_service.specs.Workers.{Extends, ExtendEach, SlotExtends, slots_of, in_slots};
 ghost use Rattle.fz_service.specs.Diary.{Gains, RunsEach, EndsWith, EndsWork};
 ghost use Rattle.fz_service.specs.Waits.{HasListened, HasLooked, RunsNone};
 
-use crate::bell::{Bell, Heard};
+use crate::bell::{Bell, Sleeper};
 use crate::diary::{Diary, Served};
 use crate::opening::Opening;
 use crate::seat::Seat;
@@ -29,42 +29,55 @@ const HINTS_IN_A_SPIN: u32 = 16;
 const YIELDS_IN_A_ROW: u32 = 64;
 
 /// What a worker does while the line is empty: first it spins, then it yields, and then it sleeps until it is woken.
-#[derive(Drop)]
 struct Pause<'a> {
     bell: &'a Bell,
     spins: u32,
     yields: u32,
-    /// The number of rings that the worker read before it last checked `stop` and the line. It is set only while the worker counts as a sleeper.
-    heard: Option<Heard>,
+    /// The worker as a sleeper, which read the number of rings before it last checked `stop` and the line.
+    sleeper: Option<Sleeper>,
+}
+
+/// The worker gets up.
+impl Drop for Pause<'_> {
+    fn drop(self) {
+        let Pause {
+            bell,
+            spins: _,
+            yields: _,
+            sleeper,
+        } = self;
+        if let Some(sleeper) = sleeper {
+            bell.get_up(sleeper);
+        }
+    }
 }
 
 impl<'a> Pause<'a> {
     fn new(bell: &'a Bell) -> Pause<'a>
-        ensures { result.heard ≡ None }
+        ensures { result.sleeper ≡ None }
     {
         Pause {
             bell,
             spins: 0,
             yields: 0,
-            heard: None,
+            sleeper: None,
         }
     }
 
     /// Called when the line had an entry, or the worker has to stop: the next pause starts from the beginning.
     fn end(&mut self)
-        ensures { self.new.heard ≡ None }
+        ensures { self.new.sleeper ≡ None }
     {
-        if self.heard.is_some() {
-            self.bell.get_up();
+        if let Some(sleeper) = mem::replace(&mut self.sleeper, None) {
+            self.bell.get_up(sleeper);
         }
-        self.heard = None;
         self.spins = 0;
         self.yields = 0;
     }
 
     fn once<G: Gate, R: Wait>(&mut self, diary: &mut Diary, gate: &G, rt: &R)
-        requires { IsSome self.old.heard → HasLooked diary.old.events }
-        ensures listened { IsSome self.new.heard → HasListened diary.new.events }
+        requires { IsSome self.old.sleeper → HasLooked diary.old.events }
+        ensures listened { IsSome self.new.sleeper → HasListened diary.new.events }
         ensures none { Gains diary.old.events diary.new.events RunsNone }
     {
         if self.spins < SPINS_IN_A_ROW {
@@ -80,14 +93,18 @@ impl<'a> Pause<'a> {
 
     /// The first call only counts the worker as a sleeper, so that it checks once more.
     fn sleep<G: Gate, R: Wait>(&mut self, diary: &mut Diary, gate: &G, rt: &R)
-        requires { IsSome self.old.heard → HasLooked diary.old.events }
+        requires { IsSome self.old.sleeper → HasLooked diary.old.events }
         ensures { diary.new.events ≡ diary.old.events ++ Listened ∷ [] }
     {
-        match self.heard {
-            Some(heard) => self.bell.sleep(heard, diary, gate, rt),
-            None => self.bell.lie_down(),
+        if let Some(sleeper) = &mut self.sleeper {
+            self.bell.sleep(sleeper, diary, gate, rt);
+            self.bell.listen(sleeper, diary);
+            return;
         }
-        self.heard = Some(self.bell.listen(diary));
+        let sleeper = self.bell.lie_down(diary);
+        if let Some(other) = mem::replace(&mut self.sleeper, Some(sleeper)) {
+            self.bell.get_up(other);
+        }
     }
 }
 
@@ -118,6 +135,7 @@ impl<O: Opening> Worker<O, List> {
     )
         ensures slot { SlotExtends self.old.slot self.new.slot }
         ensures served { IsSome self.old.slot → IsTrue self.new.served.is_over }
+        ensures list { length self.new.procs.items ≡ length self.old.procs.items }
     {
         if let Some(seat) = mem::replace(&mut self.slot, None) {
             let mut diary = Diary::new();
@@ -145,7 +163,11 @@ fn take_list(procs: &mut [List], number: usize, alloc: Global) -> List
 }
 
 /// Puts the list with this number back, if there is one.
-fn put_list_back(procs: &mut [List], number: usize, list: List) {
+#[tactic(auto, using(crate::proofs::Slots::set_here, crate::proofs::Slots::set_other))]
+fn put_list_back(procs: &mut [List], number: usize, list: List)
+    ensures put { number < length procs.old → slice_get procs.new number ≡ Some list }
+    ensures others { (i : ℕ) → i ≢ number → slice_get procs.new i ≡ slice_get procs.old i }
+{
     if number < procs.len() {
         procs[number] = list;
     }
@@ -162,6 +184,7 @@ fn with_lists<O: Opening>(
     ensures workers { map (λ worker. worker.slot) result.items ≡ slots_of seats.old.items }
     // The worker at an index has the list that was there.
     ensures lists { (i : ℕ) (list : _) → slice_get procs.old i ≡ Some list → i < length result.items → slice_get (map (λ worker. worker.procs) result.items) i ≡ Some list }
+    ensures others { (i : ℕ) → length result.items ≤ i → slice_get procs.new i ≡ slice_get procs.old i }
     ensures seats { (seats.new.items ≡ []) × (vec_capacity seats.new ≡ vec_capacity seats.old) }
 {
     while seats.len() > 0 {
@@ -183,7 +206,9 @@ fn without_lists<O: Opening>(
     mut seats: Vec<Seat<O>>,
 ) -> Vec<Seat<O>>
     requires room { (seats.items ≡ []) × (length workers.items ≤ vec_capacity seats) }
-    ensures { result.items ≡ in_slots (map (λ worker. worker.slot) workers.items) }
+    ensures seats { result.items ≡ in_slots (map (λ worker. worker.slot) workers.items) }
+    ensures lists { (i : ℕ) (list : _) → slice_get (map (λ worker. worker.procs) workers.items) i ≡ Some list → i < length procs.old → slice_get procs.new i ≡ Some list }
+    ensures others { (i : ℕ) → length workers.items ≤ i → slice_get procs.new i ≡ slice_get procs.old i }
 {
     let mut number = 0;
     while workers.len() > 0 {
@@ -301,6 +326,7 @@ impl<O: Opening> Service<O> {
         ensures len { length workers.new.items ≡ length workers.old.items }
         ensures each { (i : ℕ) (d : _) → i < length workers.old.items → SlotExtends (slice_index_or workers.old.items i d).slot (slice_index_or workers.new.items i d).slot }
         ensures served { (i : ℕ) (d : _) → i < length workers.old.items → IsSome (slice_index_or workers.old.items i d).slot → IsTrue (slice_index_or workers.new.items i d).served.is_over }
+        ensures lists { (i : ℕ) (d : _) → i < length workers.old.items → length (slice_index_or workers.new.items i d).procs.items ≡ length (slice_index_or workers.old.items i d).procs.items }
     {
         let threads = workers.len();
         if threads == 0 {
@@ -309,6 +335,7 @@ impl<O: Opening> Service<O> {
         let serve = |_: usize, worker: &mut Worker<O, List>|
             ensures slot { SlotExtends worker.old.slot worker.new.slot }
             ensures served { IsSome worker.old.slot → IsTrue worker.new.served.is_over }
+            ensures list { length worker.new.procs.items ≡ length worker.old.procs.items }
         { worker.serve_from_slot(self, gate, stop, rt) };
         thread::for_each_mut(rt, workers.as_mut_slice(), threads, &serve);
     }
@@ -331,7 +358,9 @@ impl<O: Opening> Service<O> {
     ) -> Vec<Seat<O>>
     where
         O: Send + Sync,
-        ensures { ExtendEach seats.items result.items }
+        ensures seats { ExtendEach seats.items result.items }
+        // Each list is where it was, with as many procedures.
+        ensures lists { (i : ℕ) (list : _) → slice_get procs.old i ≡ Some list → IsSomeAnd (slice_get procs.new i) (λ back. length back.items ≡ length list.items) }
     {
         let alloc = *seats.allocator();
         let Ok(room) = Vec::with_capacity(alloc, seats.len()) else {

@@ -1,5 +1,6 @@
 pub mod Slots
 pub mod Clearing
+pub mod Filling
 pub mod Gaining
 pub mod Fields
 pub mod Traced

@@ -58,6 +58,10 @@ slot slots place = slice_index_or slots place None
 abbrev pub IsFull : List (Option Record) → ℕ → Type 0
 IsFull slots from = (place : ℕ) → from ≤ place → place < length slots → slot slots place ≢ None
 
+-- no index before this one is free
+abbrev pub IsFullTo : List (Option Record) → ℕ → Type 0
+IsFullTo slots to = (place : ℕ) → place < to → slot slots place ≢ None
+
 -- a record was made at a free index
 pub record IsMade (old new : List (Option Record)) (id : RecordId) (made : Record) : Type 0 where
   pub within : id.place < length old

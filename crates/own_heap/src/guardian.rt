@@ -74,6 +74,7 @@ impl Guardian {
         requires { IsTrue (is_some (slot runtime.old.heap.records.slots.items id.place)) }
         ensures heap { runtime.new.heap ≡ runtime.old.heap }
         ensures judged { IsJudgedOrLacks (register_causes runtime.old.finalizers.registrations runtime.old.finalizers.next_number (address_of id.place)) result }
+        ensures fresh { IfErr result (λ r. r ≡ Refused.NoMemory → get runtime.old.finalizers.registrations (address_of id.place) ≡ None) }
         ensures wanting { IfErr result (λ r. r ≡ Refused.NoMemory → runtime.old.finalizers.rooms.registrations ≡ 0) }
         ensures refused { OnErr result (runtime.new.finalizers.state ≡ runtime.old.finalizers.state) }
         ensures number { IfOk result (λ answer. answer.0 ≡ runtime.old.finalizers.next_number) }

@@ -4,7 +4,7 @@ ghost use Rattle.std.specs.Prelude.{◌≡◌, ◌+◌, ◌^◌, ◌<◌, ◌≤
 ghost use Rattle.std.specs.FinMap.{get, retain_keys};
 ghost use Rattle.std.specs.Option.{option_copied};
 ghost use Rattle.fz_pass.specs.Marks.{IsClosed, Marks as MarksOf};
-ghost use Rattle.own_heap.specs.Records.{address_of, objects_of, slot, with_field, IsFull, IsLedByRoot, IsLedByWord, IsMade};
+ghost use Rattle.own_heap.specs.Records.{address_of, objects_of, slot, with_field, IsFull, IsFullTo, IsLedByRoot, IsLedByWord, IsMade};
 ghost use Rattle.own_heap.specs.Marking.{is_marked};
 
 use crate::marks::Marks;
@@ -22,11 +22,12 @@ pub struct Heap {
     pub roots: Vec<RecordId>,
     /// How many records were ever made.
     pub(crate) births: u64,
-    /// No index before this one has been free since the last sweep.
+    /// No index before this one is free.
     pub(crate) cursor: usize,
     pub(crate) ghost few: { length records.slots.items ≤ 2 ^ 32 },
     pub(crate) ghost size: { length marks.marked.items ≡ length records.slots.items },
     pub(crate) ghost idle: { marks.waiting.items ≡ [] },
+    pub(crate) ghost full: { IsFullTo records.slots.items cursor },
 }
 
 impl Heap {
@@ -50,10 +51,10 @@ impl Heap {
         })
     }
 
-    /// Makes a record at a free index. Returns `None` if no index is free until the next sweep, or if 2^64 - 1 records were made.
+    /// Makes a record at a free index. Returns `None` if no index is free, or if 2^64 - 1 records were made.
     pub fn make(&mut self, fields: [Field; FIELDS]) -> Option<RecordId>
         ensures made { MatchOption result (self.new ≡ self.old) (λ id. IsMade self.old.records.slots.items self.new.records.slots.items id (record { fields = fields; birth = self.old.births })) }
-        ensures full { result ≡ None → IsFull self.old.records.slots.items self.old.cursor ⊎ (self.old.births + 1 ≡ 2 ^ 64) }
+        ensures full { result ≡ None → IsFull self.old.records.slots.items 0 ⊎ (self.old.births + 1 ≡ 2 ^ 64) }
         ensures births { IfSome result (λ _. self.new.births ≡ self.old.births + 1) }
         ensures rest { (self.new.marks ≡ self.old.marks) × (self.new.roots ≡ self.old.roots) }
     {
@@ -140,11 +141,11 @@ impl Heap {
         ensures cursor { self.new.cursor ≡ 0 }
         ensures rest { (self.new.roots ≡ self.old.roots) × (self.new.births ≡ self.old.births) }
     {
+        self.cursor = 0;
         for place in 0..self.records.slots.len() {
             if !self.marks.marked[place] {
                 self.records.slots[place] = None;
             }
         }
-        self.cursor = 0;
     }
 }

@@ -24,6 +24,7 @@ impl WeakPair {
     pub fn new(runtime: &mut Runtime, id: RecordId, first: RecordId) -> Result<WeakPair, Refused>
         requires { IsTrue (is_some (slot runtime.old.heap.records.slots.items first.place)) }
         ensures judged { IsJudgedOrLacks (link_causes runtime.old.finalizers.long (address_of id.place) (address_of first.place)) result }
+        ensures fresh { IfErr result (λ r. r ≡ Refused.NoMemory → get runtime.old.finalizers.long (address_of id.place) ≡ None) }
         ensures wanting { IfErr result (λ r. r ≡ Refused.NoMemory → runtime.old.finalizers.rooms.long ≡ 0) }
         ensures refused { OnErr result ((runtime.new.finalizers.state ≡ runtime.old.finalizers.state) × (runtime.new.heap ≡ runtime.old.heap)) }
         ensures pair { IfOk result (λ pair. pair.id ≡ id) }

@@ -1,6 +1,6 @@
 //! The records, by index.
 
-ghost use Rattle.std.specs.Prelude.{◌≡◌, ◌+◌, ◌<◌, None, Some, option_map, length, slice_set, MatchOption};
+ghost use Rattle.std.specs.Prelude.{◌≡◌, ◌≢◌, ◌+◌, ◌<◌, ◌≤◌, ℕ, None, Some, option_map, length, slice_set, IfSome, MatchOption};
 ghost use Rattle.std.specs.FinMap.{get, contains_key};
 ghost use Rattle.fz_model.specs.Memory.{points, written};
 ghost use Rattle.own_heap.specs.Records.{object_of, objects_of, slot, value_of, with_field, AreFieldsKept, IsFull};
@@ -17,7 +17,8 @@ pub(crate) struct Records {
 impl Records {
     /// The first free index that is at least `from`.
     pub(crate) fn free_from(&self, from: usize) -> Option<usize>
-        ensures { MatchOption result (IsFull self.now.slots.items from) (λ place. (place < length self.now.slots.items) × (slot self.now.slots.items place ≡ None)) }
+        ensures found { MatchOption result (IsFull self.now.slots.items from) (λ place. (place < length self.now.slots.items) × (slot self.now.slots.items place ≡ None)) }
+        ensures first { IfSome result (λ place. (k : ℕ) → from ≤ k → k < place → slot self.now.slots.items k ≢ None) }
     {
         for place in from..self.slots.len() {
             if self.slots[place].is_none() {

@@ -6,7 +6,7 @@ ghost use Rattle.fz_model.specs.Steps.{move_answer, old_of};
 ghost use Rattle.fz_pass.specs.Keyed.{ephemeron_at, has_ephemeron, of_kind};
 ghost use Rattle.fz_pass.specs.Keyed as keyed;
 ghost use Rattle.fz_finalizers.specs.Causes.{IsJudgedBy, IsJudgedOrLacks, add_causes, finish_causes, link_causes, move_causes, register_causes};
-ghost use Rattle.fz_finalizers.specs.States.{HasRooms, links_of, opening, room_of, waiting};
+ghost use Rattle.fz_finalizers.specs.States.{HasRooms, IsRoomier, links_of, opening, room_of, waiting};
 ghost use Rattle.fz_finalizers.specs.Follows.{Follows, Register, Unregister, Link, Unlink, Move, Ephemeron, EndEphemeron, MoveEphemeron, AddCleanup, Cancel, Take, Finish, next_pass};
 ghost use Rattle.own_heap.specs.Outside.{place_of_link};
 ghost use Rattle.own_heap.specs.Records.{address_of, addresses_of, objects_of, slot, with_field, IsFull, IsMade};
@@ -71,7 +71,8 @@ impl Runtime {
     /// Makes a record a root.
     pub fn add_root(&mut self, id: RecordId) -> Result<(), AllocError>
         ensures roots { IfOk result (λ _. self.new.heap.roots.items ≡ self.old.heap.roots.items ++ id ∷ []) }
-        ensures rest { (self.new.heap.records ≡ self.old.heap.records) × (self.new.finalizers ≡ self.old.finalizers) }
+        ensures refused { OnErr result (self.new.heap.roots.items ≡ self.old.heap.roots.items) }
+        ensures rest { (self.new.heap.records ≡ self.old.heap.records) × (self.new.heap.births ≡ self.old.heap.births) × (self.new.finalizers ≡ self.old.finalizers) }
     {
         self.heap.roots.push(id)?;
         Ok(())
@@ -80,14 +81,14 @@ impl Runtime {
     /// Removes the root that was added last.
     pub fn pop_root(&mut self) -> Option<RecordId>
         ensures roots { MatchOption result (self.old.heap.roots.items ≡ []) (λ id. self.old.heap.roots.items ≡ self.new.heap.roots.items ++ id ∷ []) }
-        ensures rest { (self.new.heap.records ≡ self.old.heap.records) × (self.new.finalizers ≡ self.old.finalizers) }
+        ensures rest { (self.new.heap.records ≡ self.old.heap.records) × (self.new.heap.births ≡ self.old.heap.births) × (self.new.finalizers ≡ self.old.finalizers) }
     {
         self.heap.roots.pop()
     }
 
     /// Makes a record, as `Heap::make` does.
     pub fn make(&mut self, fields: [Field; FIELDS]) -> Option<RecordId>
-        ensures full { result ≡ None → IsFull self.old.heap.records.slots.items self.old.heap.cursor ⊎ (self.old.heap.births + 1 ≡ 2 ^ 64) }
+        ensures full { result ≡ None → IsFull self.old.heap.records.slots.items 0 ⊎ (self.old.heap.births + 1 ≡ 2 ^ 64) }
         ensures rest { (self.new.finalizers ≡ self.old.finalizers) × (self.new.heap.roots ≡ self.old.heap.roots) }
         ensures births { IfSome result (λ _. self.new.heap.births ≡ self.old.heap.births + 1) }
         ensures made { MatchOption result (self.new ≡ self.old) (λ id. IsMade self.old.heap.records.slots.items self.new.heap.records.slots.items id (record { fields = fields; birth = self.old.heap.births })) }
@@ -115,6 +116,7 @@ impl Runtime {
         ensures state { self.new.finalizers.state ≡ self.old.finalizers.state }
         ensures refused { IfErr result (λ r. r ≡ Refused.NoMemory) }
         ensures wanting { OnErr result (HasRooms self.old.finalizers.rooms registrations shorts longs → ⊥) }
+        ensures kept { IsRoomier self.old.finalizers.rooms self.new.finalizers.rooms }
         ensures room { OnOk result (HasRooms self.new.finalizers.rooms registrations shorts longs) }
     {
         self.finalizers.reserve(registrations, shorts, longs)
@@ -183,6 +185,7 @@ impl Runtime {
         ensures refused { OnErr result (self.new.finalizers.state ≡ self.old.finalizers.state) }
         ensures answer { IfOk result (λ answer. answer ≡ move_answer (links_of self.old.finalizers.state kind) word to) }
         ensures follows { OnOk result (Follows self.old.finalizers.state (Move kind word to) self.new.finalizers.state) }
+        ensures room { IsRoomier self.old.finalizers.rooms self.new.finalizers.rooms }
     {
         self.finalizers.move_link(kind, word, to)
     }
@@ -238,6 +241,7 @@ impl Runtime {
         requires { IsTrue (is_some (slot self.old.heap.records.slots.items id.place)) }
         ensures heap { self.new.heap ≡ self.old.heap }
         ensures judged { IsJudgedOrLacks (add_causes self.old.finalizers.cleanups self.old.finalizers.next_number (address_of id.place)) result }
+        ensures wanting { IfErr result (λ r. r ≡ Refused.NoMemory → self.old.finalizers.rooms.cleanups ≡ 0) }
         ensures refused { OnErr result (self.new.finalizers.state ≡ self.old.finalizers.state) }
         ensures number { IfOk result (λ number. number ≡ self.old.finalizers.next_number) }
         ensures follows { OnOk result (Follows self.old.finalizers.state (AddCleanup (address_of id.place) cleanup) self.new.finalizers.state) }

@@ -10,5 +10,5 @@ invariant-loop-turn g l = record {
   ends : (goal.iterator-loop-turn g).is_finite l._turn-iterator;
   seat : Extends l.initial.seat l.seat;
   ran : Gains l.initial.diary.events l.diary.events (RunsEach (length l.initial.procs) l.initial.seat l.seat);
-  heard : IsSome l.pause.heard → HasListened l.diary.events;
+  heard : IsSome l.pause.sleeper → HasListened l.diary.events;
 }
