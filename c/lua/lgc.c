@@ -24,8 +24,11 @@
 /* Makes a pass, or queues all that is registered. */
 static void separatetobefnz(global_State *g, int all);
 
-/* Marks the objects of entries that wait. Returns how many these are, and the work of the pass before. */
-static lu_mem markbeingfnz(global_State *g);
+/* The work of the pass before, as Lua counts it: the entries that wait, and what has been marked for them. */
+static lu_mem work_of_pass(global_State *g);
+
+/* Marks the objects of entries that wait, at the beginning of a collection. */
+static void markbeingfnz(global_State *g);
 
 /* Takes the object whose finalizer is called next. */
 static GCObject *udata2finalize(global_State *g);
@@ -71,7 +74,7 @@ struct finalizing {
     struct region *regions;    /* by falling numbers */
     size_t count, room, gone;  /* how many there are, with those without a page; room for so many; how many have no page */
     uint64_t most;             /* the most registrations and entries since memory was given back */
-    lu_mem work;               /* of the last pass, not yet told */
+    lu_mem work;               /* the marking of the last pass */
 };
 
 static uint64_t region_of(uint64_t number) { return number - number % (STEP * PLACES); }
@@ -107,11 +110,12 @@ static void *reallocate(void *g, void *memory, size_t size) { return changed((gl
 static void release(void *of, void *memory)
 {
     global_State *g = (global_State *)of;
-    char *block = (char *)memory - HEAD;
+    char *block;
     size_t had;
 
     if (!memory)
         return;
+    block = (char *)memory - HEAD;
     memcpy(&had, block, sizeof had);
     (void)(*g->frealloc)(g->ud, block, had, 0);
 }
@@ -337,12 +341,23 @@ static void separatetobefnz(global_State *g, int all)
 
     if (!g->finalizing)
         return;
+    g->finalizing->work = 0;
     if (all)
         (void)derrimas_finalizers_queue_all(&g->finalizing->finalizers, NULL);
     else if (derrimas_finalizers_pass(&g->finalizing->finalizers, &host, g, NULL) != DERRIMAS_FINALIZERS_OK)
         abort();  /* without a pass nothing may be reclaimed */
     else
         give_back(g->finalizing);
+}
+
+static lu_mem work_of_pass(global_State *g)
+{
+    derrimas_finalizers_counts counts;
+
+    if (!g->finalizing)
+        return 0;
+    (void)derrimas_finalizers_count(&g->finalizing->finalizers, &counts);
+    return counts.waiting + g->finalizing->work;
 }
 
 /* ---- generations: registrations that are two young collections old are those of old objects */
@@ -374,26 +389,20 @@ static int has_waiting(const global_State *g)
     return g->finalizing && derrimas_finalizers_has_waiting(&g->finalizing->finalizers);
 }
 
-static lu_mem markbeingfnz(global_State *g)
+static void markbeingfnz(global_State *g)
 {
     struct finalizing *of = g->finalizing;
     uint64_t from = 0, objects[PLACES];
-    lu_mem work;
     size_t i, count;
 
     if (!of)
-        return 0;
-    work = of->work;
-    of->work = 0;
-    while (derrimas_finalizers_roots(&of->finalizers, DERRIMAS_FINALIZERS_HELD_DATA, &from, objects, PLACES, &count) == DERRIMAS_FINALIZERS_OK) {
+        return;
+    while (derrimas_finalizers_roots(&of->finalizers, DERRIMAS_FINALIZERS_HELD_DATA, &from, objects, PLACES, &count) == DERRIMAS_FINALIZERS_OK)
         for (i = 0; i < count; i++) {
             GCObject *object = (GCObject *)(uintptr_t)objects[i];
 
             markobject(g, object);
         }
-        work += count;
-    }
-    return work;
 }
 
 static GCObject *udata2finalize(global_State *g)
