@@ -46,7 +46,7 @@ local rows = {
   end,
   ["young collection: all are new and die"] = function()
     collectgarbage("generational")
-    return least(3, function() empty() fill(meta) live = {} end, young)
+    return least(3, function() empty() live = {} fill(meta) live = {} end, young) -- what an old table has had would stay
   end,
   ["bytes of a live registration"] = function() -- what becomes resident
     local function resident()

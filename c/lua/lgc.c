@@ -73,6 +73,7 @@ struct finalizing {
     uint64_t surviving;        /* the same of objects that are old after the next young collection */
     struct region *regions;    /* by falling numbers */
     size_t count, room, gone;  /* how many there are, with those without a page; room for so many; how many have no page */
+    size_t last;               /* where one was found last: the next one is often the same, or the one before it */
     uint64_t most;             /* the most registrations and entries since memory was given back */
     lu_mem work;               /* the marking of the last pass */
 };
@@ -158,10 +159,14 @@ static void close_finalizers(global_State *g)
 /* ---- pages */
 
 /* The region with this first number, or NULL. */
-static struct region *found(const struct finalizing *of, uint64_t first)
+static struct region *found(struct finalizing *of, uint64_t first)
 {
     size_t from = 0, to = of->count;
 
+    if (of->last > 0 && of->last < to && of->regions[of->last].first != first)
+        of->last--;
+    if (of->last < to && of->regions[of->last].first == first)
+        return &of->regions[of->last];
     while (from < to) {
         size_t middle = from + (to - from) / 2;
 
@@ -170,17 +175,18 @@ static struct region *found(const struct finalizing *of, uint64_t first)
         else
             to = middle;
     }
+    of->last = from;
     return from < of->count && of->regions[from].first == first ? &of->regions[from] : NULL;
 }
 
-static struct page *page_of(const struct finalizing *of, uint64_t first)
+static struct page *page_of(struct finalizing *of, uint64_t first)
 {
     const struct region *region = found(of, first);
 
     return region ? region->page : NULL;
 }
 
-static GCObject *object_of(const struct finalizing *of, uint64_t number)
+static GCObject *object_of(struct finalizing *of, uint64_t number)
 {
     return page_of(of, region_of(number))->objects[place_of(number)];
 }
@@ -302,7 +308,7 @@ static void mark(void *data, uint64_t number)
 /* The marks of a region. In a young collection old objects are marked; these aren't looked at. */
 static uint64_t marks(void *data, uint64_t first)
 {
-    const struct finalizing *of = ((global_State *)data)->finalizing;
+    struct finalizing *of = ((global_State *)data)->finalizing;
     const struct page *page = page_of(of, first);
     uint64_t word = 0, i;
 
