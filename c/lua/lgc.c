@@ -1,6 +1,6 @@
 /* lgc.c of Lua 5.4 over derrimas_finalizers.h: it stands in the place of the package's own file, which is compiled with it as lgc_package.c.
  *
- * Which objects have finalizers, which of them a collection calls, in which order, and what waits to be called, are the library's. Lua's own are the marker,
+ * Which objects have finalizers, which of them a collection calls, in which order, and what waits, are the library's. Lua's own are the marker,
  * weak tables, generations, the calls of finalizers and their pace. Objects with finalizers stay in the list of all objects.
  *
  * `patches.py` says what is changed in the package's files: it leaves out the functions that this one has, and what the package does with its two further lists.
