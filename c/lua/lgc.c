@@ -24,8 +24,8 @@
 /* Makes a pass, or queues all that is registered. */
 static void separatetobefnz(global_State *g, int all);
 
-/* The work of the pass before, as Lua counts it: the entries that wait, and what has been marked for them. */
-static lu_mem work_of_pass(global_State *g);
+/* How many entries wait, which Lua counts as work. */
+static lu_mem waiting(global_State *g);
 
 /* Marks the objects of entries that wait, at the beginning of a collection. */
 static void markbeingfnz(global_State *g);
@@ -75,7 +75,6 @@ struct finalizing {
     size_t count, room, gone;  /* how many there are, with those without a page; room for so many; how many have no page */
     size_t last;               /* where one was found last: the next one is often the same, or the one before it */
     uint64_t most;             /* the most registrations and entries since memory was given back */
-    lu_mem work;               /* the marking of the last pass */
 };
 
 static uint64_t region_of(uint64_t number) { return number - number % (STEP * PLACES); }
@@ -295,14 +294,13 @@ static bool is_marked(void *data, uint64_t number)
     return !iswhite(object_of(((global_State *)data)->finalizing, number));
 }
 
-/* Marks the object and all that it reaches by strong references. What rows of ephemeron tables add is the package's: it comes after the pass. */
+/* Marks the object. Lua marks what all of these reach once the pass has ended: no question that comes after this one asks what is marked. */
 static void mark(void *data, uint64_t number)
 {
     global_State *g = (global_State *)data;
     GCObject *object = object_of(g->finalizing, number);
 
     markobject(g, object);
-    g->finalizing->work += propagateall(g);
 }
 
 /* The marks of a region. In a young collection old objects are marked; these aren't looked at. */
@@ -347,23 +345,12 @@ static void separatetobefnz(global_State *g, int all)
 
     if (!g->finalizing)
         return;
-    g->finalizing->work = 0;
     if (all)
         (void)derrimas_finalizers_queue_all(&g->finalizing->finalizers, NULL);
     else if (derrimas_finalizers_pass(&g->finalizing->finalizers, &host, g, NULL) != DERRIMAS_FINALIZERS_OK)
         abort();  /* without a pass nothing may be reclaimed */
     else
         give_back(g->finalizing);
-}
-
-static lu_mem work_of_pass(global_State *g)
-{
-    derrimas_finalizers_counts counts;
-
-    if (!g->finalizing)
-        return 0;
-    (void)derrimas_finalizers_count(&g->finalizing->finalizers, &counts);
-    return counts.waiting + g->finalizing->work;
 }
 
 /* ---- generations: registrations that are two young collections old are those of old objects */
@@ -393,6 +380,15 @@ static void none_is_old(global_State *g)
 static int has_waiting(const global_State *g)
 {
     return g->finalizing && derrimas_finalizers_has_waiting(&g->finalizing->finalizers);
+}
+
+static lu_mem waiting(global_State *g)
+{
+    derrimas_finalizers_counts counts = {0};
+
+    if (g->finalizing)
+        (void)derrimas_finalizers_count(&g->finalizing->finalizers, &counts);
+    return counts.waiting;
 }
 
 static void markbeingfnz(global_State *g)
