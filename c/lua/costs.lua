@@ -1,7 +1,7 @@
 -- costs.lua WHAT N: the processor time of one thing in nanoseconds for each of N objects, the least of a few times.
 local what, count = arg[1], tonumber(arg[2])
 collectgarbage("stop")
-local meta, plain = {__gc = function() end}, {}
+local meta = {__gc = function() end}
 local live = {}
 
 local function least(times, before, it)
@@ -21,17 +21,16 @@ local function full() collectgarbage() end
 local function young() collectgarbage("step", 0) end
 
 local rows = {
-  ["register a new object"] = function()
-    local made = least(5, empty, function() fill(plain) end)
-    return least(5, empty, function() fill(meta) end) - made
+  ["setmetatable of the newest object"] = function()
+    return least(5, function() empty() fill() end, function() for i = count, 1, -1 do setmetatable(live[i], meta) end end)
   end,
-  ["register an object that was made before the others"] = function()
+  ["setmetatable of the oldest object"] = function()
     for i = 1, count do live[i] = {} end
     local some, from = 100, 0
     local best = least(5, nil, function() for i = 1, some do setmetatable(live[from + i], meta) end from = from + some end)
     return best * count / some
   end,
-  ["collect: none has a finalizer"] = function() fill(plain) full() return least(5, nil, full) end,
+  ["collect: none has a finalizer"] = function() fill({}) full() return least(5, nil, full) end,
   ["collect: all live"] = function() fill(meta) full() return least(5, nil, full) end,
   ["collect: all die, and empty finalizers are called"] = function()
     return least(3, function() empty() fill(meta) full() live = {} end, full)
