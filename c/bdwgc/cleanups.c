@@ -60,6 +60,7 @@ static void tell(const char *name, enum what what, unsigned wanted)
 
 int main(void)
 {
+    unsigned lines;
     int on_stack;
 
     GC_INIT();
@@ -71,9 +72,12 @@ int main(void)
     numbers = GC_MALLOC_ATOMIC_UNCOLLECTABLE(OBJECTS * sizeof *numbers);
     for (uintptr_t n = 0; n < OBJECTS; n++)
         make(n);
+    lines = dumped_lines();
     for (unsigned n = 0; n < OBJECTS; n += 8)
         wrong += !GC_cancel_cleanup(numbers[n]) || GC_cancel_cleanup(numbers[n]);
-    wrong += GC_cancel_cleanup(0) || GC_add_cleanup(&on_stack, GC_CLEANUP_LONG, long_cleanup, 0);
+    wrong += dumped_lines() != lines - OBJECTS / 8; /* the dump tells of each */
+    wrong += GC_cancel_cleanup(0) || GC_add_cleanup(&on_stack, GC_CLEANUP_LONG, long_cleanup, 0) || GC_add_cleanup(0, GC_CLEANUP_LONG, long_cleanup, 0);
+    wrong += GC_add_cleanup(objects[0] + 1, GC_CLEANUP_LONG, long_cleanup, 0) || GC_add_cleanup(objects[0], GC_CLEANUP_LONG, 0, 0); /* within an object; no procedure */
     collect();
     wrong += GC_invoke_finalizers() != 0;
     memset(objects, 0, OBJECTS * sizeof *objects);

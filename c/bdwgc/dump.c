@@ -11,32 +11,7 @@ static void note(void *object, void *cd)
     (void)cd;
 }
 
-static unsigned lines(FILE *file)
-{
-    unsigned all = 0;
-    int it;
-
-    rewind(file);
-    while ((it = getc(file)) != EOF)
-        all += it == '\n';
-    return all;
-}
-
-static void tell(const char *what)
-{
-    FILE *file = tmpfile();
-    int out = dup(1);
-
-    fflush(stdout);
-    if (!file || out < 0 || dup2(fileno(file), 1) < 0)
-        fail("a file");
-    GC_dump_finalization();
-    if (dup2(out, 1) < 0)
-        fail("the output");
-    printf("%s: %u lines\n", what, lines(file));
-    close(out);
-    fclose(file);
-}
+static void tell(const char *what) { printf("%s: %u lines\n", what, dumped_lines()); }
 
 int main(void)
 {

@@ -1,10 +1,12 @@
 /* ephemerons: those of gc_ephemeron.h, over the replaced library alone. A weak table whose values lead to their keys keeps all of its rows as a table of links, and those
- * alone whose keys are used otherwise as one of ephemerons. Rows of chains, of lost tables, and of keys with finalizers; words that move, and words outside the heap.
+ * alone whose keys are used otherwise as one of ephemerons. Rows of chains, of lost tables, of keys with finalizers, and of pointers with tags; words that move, and words
+ * outside the heap. Threads that make rows while another one collects.
  */
+#include <pthread.h>
 #include "graph.h"
 #include "gc_ephemeron.h"
 
-enum { ROWS = 20000, USED = 10, FEW = 100 };
+enum { ROWS = 20000, USED = 10, FEW = 100, TAG = 3, THREADS = 4 };
 
 static unsigned wrong, came;
 static void **keys, **values, **tables; /* words that bdwgc doesn't scan; words of tables that it does */
@@ -175,20 +177,100 @@ static void registered_keys(void)
     tell("long rows that go with their keys", ROWS - count(watched, ROWS), ROWS);
 }
 
+/* ---- threads */
+
+static bool is_over; /* the makers have ended */
+
+/* The value is written once the word is an ephemeron, and to another word before the ephemeron is moved there. */
+APART static bool make_moved(uintptr_t n)
+{
+    void **key = GC_MALLOC(2 * sizeof(void *)), **value = GC_MALLOC(2 * sizeof(void *));
+    bool is_right = GC_register_ephemeron((void **)&keys[n], key) == GC_SUCCESS;
+
+    value[0] = key;
+    value[1] = boxed(n);
+    used[n] = n % USED == 0 ? key : NULL;
+    keys[n] = values[n] = value;
+    return is_right && GC_move_ephemeron((void **)&keys[n], &values[n]) == GC_SUCCESS && !GC_unregister_ephemeron((void **)&keys[n]);
+}
+
+static void *making(void *first)
+{
+    for (uintptr_t n = 0; n < ROWS / THREADS; n++)
+        if (!make_moved((uintptr_t)first + n))
+            __atomic_add_fetch(&wrong, 1, __ATOMIC_RELAXED);
+    scrub();
+    return NULL;
+}
+
+static void *collecting(void *nothing)
+{
+    while (!__atomic_load_n(&is_over, __ATOMIC_RELAXED)) {
+        GC_gcollect();
+        usleep(300);
+    }
+    return nothing;
+}
+
+static void in_threads(void)
+{
+    pthread_t makers[THREADS], collector;
+
+    for (unsigned n = 0; n < ROWS; n++)
+        (void)GC_unregister_ephemeron(&values[n]); /* that the stack has kept */
+    memset(values, 0, ROWS * sizeof *values);
+    memset(used, 0, ROWS * sizeof *used);
+    GC_enable();
+    for (uintptr_t n = 0; n < THREADS; n++)
+        must(!pthread_create(&makers[n], NULL, making, (void *)(n * (ROWS / THREADS))));
+    must(!pthread_create(&collector, NULL, collecting, NULL));
+    for (unsigned n = 0; n < THREADS; n++)
+        pthread_join(makers[n], NULL);
+    __atomic_store_n(&is_over, true, __ATOMIC_RELAXED);
+    pthread_join(collector, NULL);
+    GC_disable();
+    collect();
+    for (uintptr_t n = 0; n < ROWS; n += USED) {
+        void **value = values[n];
+
+        wrong += !value || value[0] != used[n] || *(const uintptr_t *)value[1] != n;
+    }
+    tell("rows of threads that go", ROWS - count(values, ROWS), ROWS - ROWS / USED);
+}
+
 /* Each answer of the calls, about words outside the heap. */
 static void answers(void)
 {
     static void *words[3];
     void **key = GC_MALLOC(2 * sizeof(void *));
+    unsigned lines;
 
     wrong += GC_register_ephemeron(&words[0], key) != GC_SUCCESS || GC_register_long_ephemeron(&words[0], key) != GC_DUPLICATE;
     wrong += GC_move_ephemeron(&words[1], &words[2]) != GC_NOT_FOUND || GC_register_ephemeron(&words[1], key) != GC_SUCCESS;
     wrong += GC_move_ephemeron(&words[0], &words[1]) != GC_DUPLICATE || GC_move_ephemeron(&words[0], &words[2]) != GC_SUCCESS;
-    wrong += GC_unregister_ephemeron(&words[0]) || !GC_unregister_ephemeron(&words[1]) || !GC_unregister_ephemeron(&words[2]);
+    lines = dumped_lines(); /* the dump tells of the long one and of the short one */
+    wrong += GC_unregister_ephemeron(&words[0]) || !GC_unregister_ephemeron(&words[2]) || dumped_lines() != lines - 1;
+    wrong += GC_register_long_ephemeron(&words[2], key) != GC_SUCCESS || !GC_unregister_ephemeron(&words[1]) || dumped_lines() != lines - 1;
+    wrong += !GC_unregister_ephemeron(&words[2]);
+    wrong += GC_register_ephemeron(&words[0], words) != GC_NOT_FOUND || GC_register_long_ephemeron(&words[0], key + 1) != GC_NOT_FOUND; /* outside the heap; within an object */
+    wrong += GC_register_long_ephemeron(&words[0], NULL) != GC_NOT_FOUND || GC_unregister_ephemeron(&words[0]);
+    collect();
     tell("answers", 0, 0);
 }
 
-int main(void)
+/* The value's address has a tag, at which bdwgc takes it for one of the object, and no other address within an object. */
+APART static void make_tagged(uintptr_t n)
+{
+    void **value = GC_MALLOC(2 * sizeof(void *));
+
+    value[0] = boxed(n);
+    watched[n] = value;
+    values[n] = (char *)value + (n % 2 ? TAG : 0);
+    must(GC_register_long_link(&watched[n], value) == GC_SUCCESS);
+    must(GC_register_ephemeron(&values[n], used[0]) == GC_SUCCESS);
+}
+
+static void opens(void)
 {
     GC_INIT();
     GC_set_finalize_on_demand(1);
@@ -200,10 +282,34 @@ int main(void)
     tables = GC_MALLOC_UNCOLLECTABLE(ROWS * sizeof *tables);
     used = GC_MALLOC_UNCOLLECTABLE(ROWS * sizeof *used);
     memset(values, 0, ROWS * sizeof *values);
+}
+
+static void tagged(void)
+{
+    GC_set_all_interior_pointers(0);
+    opens();
+    GC_register_displacement(TAG);
+    used[0] = GC_MALLOC(2 * sizeof(void *));
+    for (uintptr_t n = 0; n < ROWS; n++)
+        make_tagged(n);
+    collect();
+    for (uintptr_t n = 0; n < ROWS; n++)
+        wrong += !watched[n] || *(uintptr_t *)*(void **)watched[n] != n;
+    used[0] = NULL;
+    collect();
+    collect();
+    tell("values with tags that go", ROWS - count(watched, ROWS), ROWS);
+}
+
+int main(void)
+{
+    in_a_process(tagged); /* what bdwgc takes for a pointer is chosen before it is opened */
+    opens();
     weak_tables();
     chains();
     lost_tables();
     registered_keys();
+    in_threads();
     answers();
     return 0;
 }

@@ -329,6 +329,9 @@ GC_API void GC_CALL GC_register_finalizer_unreachable(void *object, GC_finalizat
 
 /* ---- cleanups, of which gc.h has none */
 
+/* Of any other address a pass couldn't tell whether it is marked. */
+static GC_bool is_first_byte(const void *object) { return object != NULL && GC_base((void *)(word)object) == object; }
+
 static GC_bool add(uint64_t object, GC_cleanup_when when, GC_finalization_proc proc, uint64_t cd, uint64_t *number)
 {
     const derrimas_finalizers_when due = when == GC_CLEANUP_SHORT ? DERRIMAS_FINALIZERS_SHORT : DERRIMAS_FINALIZERS_LONG;
@@ -347,7 +350,7 @@ GC_API unsigned long long GC_CALL GC_add_cleanup(void *object, GC_cleanup_when w
     if (EXPECT(GC_find_leak, FALSE))
         return 0;
     LOCK();
-    done = HDR(object) != 0
+    done = proc != 0 && is_first_byte(object)
            && (add(hidden, when, proc, data, &number)
                || (found_memory(sizeof(derrimas_finalizers_cleanup_at)) && add(hidden, when, proc, data, &number)));
     with_data += done ? is_data(data) : 0;
@@ -380,6 +383,7 @@ static int make(making *how, derrimas_finalizers_link_kind kind, void **link, co
 {
     const uint64_t place = HIDE(link), hidden = HIDE(target);
     derrimas_finalizers_linked answer = DERRIMAS_FINALIZERS_LINKED;
+    void *value;
     GC_bool done;
     DCL_LOCK_STATE;
 
@@ -387,6 +391,7 @@ static int make(making *how, derrimas_finalizers_link_kind kind, void **link, co
         ABORT("A disappearing link at no word");
     if (EXPECT(GC_find_leak, FALSE))
         return GC_UNIMPLEMENTED;
+    value = *link; /* an ephemeron's: the word retains it only once it is one */
     LOCK();
     GC_ASSERT(target != NULL && GC_base_C(target) == target);
     done = is_open() && how(&finalizers, kind, place, hidden, &answer) == DERRIMAS_FINALIZERS_OK;
@@ -394,6 +399,7 @@ static int make(making *how, derrimas_finalizers_link_kind kind, void **link, co
         done = is_open() && how(&finalizers, kind, place, hidden, &answer) == DERRIMAS_FINALIZERS_OK;
     GC_reachable_here(link);
     GC_reachable_here(target);
+    GC_reachable_here(value);
     UNLOCK();
     return done ? DERRIMAS_FINALIZERS_GC_ANSWER(answer) : GC_NO_MEMORY;
 }
@@ -446,12 +452,12 @@ GC_API int GC_CALL GC_move_long_link(void **link, void **to) { return move_link(
 
 GC_API int GC_CALL GC_register_ephemeron(void **value, const void *key)
 {
-    return make(derrimas_finalizers_ephemeron, DERRIMAS_FINALIZERS_SHORT, value, key);
+    return is_first_byte(key) ? make(derrimas_finalizers_ephemeron, DERRIMAS_FINALIZERS_SHORT, value, key) : GC_NOT_FOUND;
 }
 
 GC_API int GC_CALL GC_register_long_ephemeron(void **value, const void *key)
 {
-    return make(derrimas_finalizers_ephemeron, DERRIMAS_FINALIZERS_LONG, value, key);
+    return is_first_byte(key) ? make(derrimas_finalizers_ephemeron, DERRIMAS_FINALIZERS_LONG, value, key) : GC_NOT_FOUND;
 }
 
 GC_API int GC_CALL GC_unregister_ephemeron(void **value)
@@ -518,12 +524,13 @@ static word scanned_words(const hdr *header)
     return (descr & GC_DS_TAGS) != GC_DS_LENGTH ? 0 : BYTES_TO_WORDS(descr < header->hb_sz ? descr : header->hb_sz);
 }
 
-/* The object to which a word points, or NULL. */
+/* The object to which a word points, or NULL. Where an address within an object doesn't count, one does at a distance that GC_register_displacement was given. */
 static ptr_t pointed(word value)
 {
     const ptr_t object = (ptr_t)GC_base((void *)value);
+    const word distance = value - (word)object;
 
-    return GC_all_interior_pointers || object == (ptr_t)value ? object : NULL;
+    return GC_all_interior_pointers || (distance < VALID_OFFSET_SZ && GC_valid_offsets[distance]) ? object : NULL;
 }
 
 static bool ring_child(void *from, uint64_t object, uint64_t n, uint64_t *link, uint64_t *child)
@@ -895,16 +902,21 @@ GC_API void GC_CALL GC_finalize_all(void)
 #ifndef NO_DEBUGGING
 enum { PART = 64 }; /* of a walk */
 
-static void dump_links(derrimas_finalizers_link_kind kind)
+typedef derrimas_finalizers_code walking(const derrimas_finalizers *, derrimas_finalizers_link_kind, uint64_t *, derrimas_finalizers_link_at *, size_t, size_t *);
+
+static void dump_words(walking *walk, derrimas_finalizers_link_kind kind, const char *to)
 {
     derrimas_finalizers_link_at links[PART];
     uint64_t from = 0;
     size_t count, i;
 
-    while (derrimas_finalizers_links(&finalizers, kind, &from, links, PART, &count) == DERRIMAS_FINALIZERS_OK)
+    while (walk(&finalizers, kind, &from, links, PART, &count) == DERRIMAS_FINALIZERS_OK)
         for (i = 0; i < count; i++)
-            GC_printf("word %p leads to %p\n", (void *)SHOW(links[i].word), (void *)SHOW(links[i].target));
+            GC_printf("word %p %s %p\n", (void *)SHOW(links[i].word), to, (void *)SHOW(links[i].target));
 }
+
+static void dump_links(derrimas_finalizers_link_kind kind) { dump_words(derrimas_finalizers_links, kind, "leads to"); }
+static void dump_ephemerons(derrimas_finalizers_link_kind kind) { dump_words(derrimas_finalizers_ephemerons, kind, "has the key"); }
 
 static void dump_registrations(void)
 {
@@ -917,14 +929,36 @@ static void dump_registrations(void)
             GC_printf("%p\n", (void *)SHOW(registrations[i].object));
 }
 
+static void dump_cleanups(void)
+{
+    derrimas_finalizers_cleanup_at cleanups[PART];
+    uint64_t from = 0;
+    size_t count, i;
+
+    while (derrimas_finalizers_cleanups(&finalizers, &from, cleanups, PART, &count) == DERRIMAS_FINALIZERS_OK)
+        for (i = 0; i < count; i++)
+            GC_printf("%p, cleanup %lu\n", (void *)SHOW(cleanups[i].object), (unsigned long)cleanups[i].number + 1);
+}
+
 GC_API void GC_CALL GC_dump_finalization(void)
 {
+    const derrimas_finalizers_counts counts = counted();
+
     GC_printf("short links:\n");
     dump_links(DERRIMAS_FINALIZERS_SHORT);
     GC_printf("long links:\n");
     dump_links(DERRIMAS_FINALIZERS_LONG);
     GC_printf("objects with finalizers:\n");
     dump_registrations();
+    if (counts.short_ephemerons + counts.long_ephemerons > 0) { /* without these and cleanups it prints as many lines as bdwgc by itself */
+        GC_printf("ephemerons:\n");
+        dump_ephemerons(DERRIMAS_FINALIZERS_SHORT);
+        dump_ephemerons(DERRIMAS_FINALIZERS_LONG);
+    }
+    if (counts.cleanups > 0) {
+        GC_printf("objects with cleanups:\n");
+        dump_cleanups();
+    }
 }
 #endif
 

@@ -50,6 +50,27 @@ APART __attribute__((unused)) static void collect(void)
     scrub();
 }
 
+/* How many lines GC_dump_finalization prints. */
+static inline unsigned dumped_lines(void)
+{
+    FILE *file = tmpfile();
+    int out = dup(1), it;
+    unsigned lines = 0;
+
+    fflush(stdout);
+    if (!file || out < 0 || dup2(fileno(file), 1) < 0)
+        fail("a file");
+    GC_dump_finalization();
+    if (dup2(out, 1) < 0)
+        fail("the output");
+    rewind(file);
+    while ((it = getc(file)) != EOF)
+        lines += it == '\n';
+    close(out);
+    fclose(file);
+    return lines;
+}
+
 /* Calls the procedure in a process of its own, since a ring that is registered stays for good. */
 static inline void in_a_process(void (*procedure)(void))
 {

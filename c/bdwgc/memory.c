@@ -3,6 +3,7 @@
  */
 #include "derrimas_finalizers.h"
 #include "graph.h"
+#include "gc_ephemeron.h"
 #include <sys/mman.h>
 
 enum { OBJECTS = 5000 };
@@ -121,6 +122,14 @@ APART static int link_fresh(void **aux, void **link) { return GC_general_registe
 APART static int link_in_fresh(void **aux, void *object) { return GC_general_register_disappearing_link(fresh(aux), object); }
 APART static void register_fresh(void **aux) { GC_register_finalizer(fresh(aux), note, 0, 0, 0); }
 APART static void register_data(void **aux, void *object) { GC_register_finalizer(object, note, fresh(aux), 0, 0); }
+APART static int key_fresh(void **aux, void **word) { return GC_register_ephemeron(word, fresh(aux)); }
+
+/* The word alone has the value, and retains it only from the call on. */
+APART static int key_value(void **aux, void **word, void *object)
+{
+    *word = fresh(aux);
+    return GC_register_ephemeron(word, object);
+}
 
 /* Each kind of call in a process of its own, whose last collection is within the call. */
 static void lose(void)
@@ -128,10 +137,12 @@ static void lose(void)
     void **words = calloc(2, sizeof *words), *object = GC_MALLOC_UNCOLLECTABLE(16);
 
     GC_set_oom_fn(find_by_collecting);
-    switch (of_all->turn % 4) {
+    switch (of_all->turn % 6) {
     case 0: (void)link_fresh(&words[0], &words[1]); break;
     case 1: (void)link_in_fresh(&words[0], object); break;
     case 2: register_fresh(&words[0]); break;
+    case 3: (void)key_fresh(&words[0], &words[1]); break;
+    case 4: (void)key_value(&words[0], &words[1], object); break;
     default: register_data(&words[0], object);
     }
     of_all->tried += asked;

@@ -215,10 +215,11 @@ typedef enum derrimas_ask {
 /* A question about `count` objects, words or regions, 1 to DERRIMAS_FINALIZERS_BATCH, to be answered or carried out one
  * after another; the places after them are undefined. For IS_MARKED, HOLDER_IS_MARKED and MARK_VALUE bit i of the answers,
  * counted from the lowest, is the answer about what[i]. To say 1 of MARK_VALUE is always right; 0 says that all was marked
- * before. For the others the answers are ignored. MARKS alone is answered in `marks`, which nothing else reads or writes. what[j] is where a region begins, which has 64 places, 16 apart. Bit i of
- * marks[j] says whether the object that begins at what[j] + 16 * i is marked. If none begins at a place, its bit may have
- * any value. For a region whose memory is freed give 0. An object that begins off the multiples of 16 is in a region that
- * does so too, so what[j] need be no object and no multiple of 16, and may be 0. */
+ * before. For the others the answers are ignored. MARKS alone is answered in `marks`, which nothing else reads or writes.
+ * what[j] is where a region begins, which has 64 places, 16 apart. Bit i of marks[j] says whether the object that begins at
+ * what[j] + 16 * i is marked. If none begins at a place, its bit may have any value. For a region whose memory is freed give 0.
+ * An object that begins off the multiples of 16 is in a region that does so too, so what[j] need be no object and no multiple
+ * of 16, and may be 0. */
 typedef struct derrimas_question {
     uint64_t what[DERRIMAS_FINALIZERS_BATCH];
     uint64_t count;
@@ -276,8 +277,9 @@ derrimas_finalizers_code derrimas_finalizers_unregister(derrimas_finalizers *fin
 
 /* Makes a link from the word to the target. If the word has one of this kind, its target is replaced, and *answer is
  * DUPLICATE, otherwise LINKED; it may be NULL. A word may have one link of each kind. A pass clears the word and removes
- * the link when the target is lost: for a SHORT link unmarked when the pass begins, for a LONG one also not retained for a
- * finalizer. If the object that has the word is left unmarked, the pass removes the link and leaves the word as it is.
+ * the link when the target is lost: for a SHORT link unmarked when the pass begins, once the values of ephemerons have been
+ * marked, for a LONG one also not retained for a finalizer. If the object that has the word is left unmarked, the pass removes
+ * the link and leaves the word as it is.
  * Refused: BAD_KIND, NOT_OPEN, PASS_OPEN, ZERO, FULL, NO_MEMORY. */
 DERRIMAS_CHECKED derrimas_finalizers_code
 derrimas_finalizers_link(derrimas_finalizers *finalizers, derrimas_finalizers_link_kind kind, uint64_t word, uint64_t target,
@@ -537,7 +539,7 @@ typedef struct derrimas_paths {
  * objects and the targets of short links are the host's objects. It changes nothing. By the handle's allocator it takes
  * memory for each word of the objects that roots, registered objects and short links reach, and frees it again. It takes
  * time proportional to these words, registrations and links. Values of ephemerons don't count, unless `child` lists their
- * words.
+ * words: an object that only such a value retains, or that waits for one, is described as if there were no ephemerons.
  * Refused: NOT_OPEN, PASS_OPEN; OVERLAP, NO_MEMORY, whichever comes first. */
 DERRIMAS_CHECKED derrimas_finalizers_code derrimas_finalizers_why(derrimas_finalizers *finalizers, uint64_t object,
                                                                   const derrimas_paths *paths, void *data, derrimas_why *why,

@@ -389,6 +389,25 @@ static void led_to_by_a_row(void)
     closes();
 }
 
+/* A registered value that leads to its own key: in a long row it waits for itself, unless it is of kind NO_ORDER; a short row is cleared before. */
+static void registered_value(derrimas_finalizers_link_kind of, derrimas_finalizers_kind kind)
+{
+    const bool waits = of == LONG && kind != DERRIMAS_FINALIZERS_NO_ORDER;
+
+    opens();
+    objects[0].is_root = true;
+    points(2, 1);
+    row(of, 0, 0, 1, 2);
+    OK(derrimas_finalizers_register(&finalizers, number_of(&objects[2]), kind, 40, 0, 0, NULL, NULL));
+    collects(2, !waits, 3);
+    IS(objects[0].words[0] != 0, of == LONG);
+    if (!waits)
+        runs(40);
+    collects(2, 0, waits ? 3 : 1);
+    IS(counted().registrations == waits && counted().short_ephemerons == 0 && counted().long_ephemerons == waits, true);
+    closes();
+}
+
 /* A word in no object: the key alone decides. */
 static void word_of_no_object(void)
 {
@@ -423,6 +442,63 @@ static void link_and_ephemeron(derrimas_finalizers_link_kind kind)
     runs(30);
     collects(2, 0, 1);
     IS(objects[0].words[0] || objects[0].words[1], false);
+    closes();
+}
+
+/* A word that is a short link, too: it is cleared if the link's target isn't marked, even by a value, and stays an ephemeron. */
+static void word_with_a_link(void)
+{
+    opens();
+    objects[0].is_root = objects[1].is_root = true;
+    row(LONG, 0, 0, 1, 2);
+    OK(derrimas_finalizers_link(&finalizers, SHORT, word_of(&objects[0], 0), number_of(&objects[2]), NULL));
+    collects(3, 0, 3);
+    IS(objects[0].words[0], number_of(&objects[2]));
+    OK(derrimas_finalizers_link(&finalizers, SHORT, word_of(&objects[0], 0), number_of(&objects[3]), NULL));
+    collects(3, 0, 3);
+    IS(objects[0].words[0] == 0 && counted().short_links == 0 && counted().long_ephemerons == 1, true);
+    objects[0].words[0] = number_of(&objects[3]);
+    collects(3, 0, 3);
+    IS(objects[3].is_marked, true);
+    objects[1].is_root = false;
+    collects(3, 0, 1);
+    IS(objects[0].words[0] == 0 && counted().long_ephemerons == 0, true);
+    closes();
+}
+
+/* A key with its own row in it, and one that is its own value. */
+static void own_rows(derrimas_finalizers_link_kind kind)
+{
+    opens();
+    objects[1].is_root = true;
+    row(kind, 1, 0, 1, 2);
+    collects(3, 0, 2);
+    objects[0].is_root = true;
+    objects[1].is_root = false;
+    row(kind, 0, 0, 3, 3);
+    collects(3, 0, 1);
+    IS(objects[0].words[0] == 0 && counted().short_ephemerons + counted().long_ephemerons == 0, true);
+    closes();
+}
+
+/* What a value keeps has its short links and its short cleanups, until the key is lost. */
+static void kept_by_a_value(void)
+{
+    static uint64_t word;
+
+    opens();
+    objects[0].is_root = objects[1].is_root = true;
+    points(2, 3);
+    row(LONG, 0, 0, 1, 2);
+    word = number_of(&objects[3]);
+    OK(derrimas_finalizers_link(&finalizers, SHORT, (uint64_t)(uintptr_t)&word, word, NULL));
+    OK(derrimas_finalizers_add_cleanup(&finalizers, word, DERRIMAS_FINALIZERS_SHORT, 50, 0, 0, NULL));
+    collects(3, 0, 4);
+    IS(word == number_of(&objects[3]) && counted().cleanups == 1, true);
+    objects[1].is_root = false;
+    collects(3, 1, 1);
+    IS(word, 0);
+    runs(50);
     closes();
 }
 
@@ -593,9 +669,17 @@ static void both(void)
     lost_table();
     short_and_long_rows();
     led_to_by_a_row();
+    for (int kind = DERRIMAS_FINALIZERS_NORMAL; kind <= DERRIMAS_FINALIZERS_UNREACHABLE; kind++) {
+        registered_value(SHORT, (derrimas_finalizers_kind)kind);
+        registered_value(LONG, (derrimas_finalizers_kind)kind);
+    }
     word_of_no_object();
     link_and_ephemeron(SHORT);
     link_and_ephemeron(LONG);
+    word_with_a_link();
+    own_rows(SHORT);
+    own_rows(LONG);
+    kept_by_a_value();
     for (size_t rows = 1; rows < 200; rows += rows) {
         long_chain(rows, false);
         long_chain(rows, true);

@@ -245,6 +245,25 @@ static void after_a_while(void)
     IS(ran[5], 0);
 }
 
+/* Entries of cleanups have no object, and are run and finished as others are. */
+static void cleanups(void)
+{
+    uint64_t queued;
+
+    start(3);
+    enter(NULL);
+    for (uint64_t n = 0; n < FEW; n++) {
+        data[next_data] = 0;
+        OK(derrimas_finalizers_add_cleanup(&finalizers, 1 + n % 7, (derrimas_finalizers_when)(n % 2), n % 3 ? PLAIN : FINISHES, next_data++, 0, NULL));
+    }
+    OK(derrimas_finalizers_queue_cleanups(&finalizers, &queued));
+    OK(derrimas_workers_publish(&workers));
+    leave(NULL);
+    OK(derrimas_workers_wait(&workers, UINT64_MAX));
+    IS(queued == FEW && ran[0] == FEW, true);
+    IS(stopped().finished, FEW);
+}
+
 /* ---- what goes wrong */
 
 static void few_threads(void)
@@ -564,6 +583,7 @@ int main(int count, char **words)
     refusals();
     each_number_of_workers();
     after_a_while();
+    cleanups();
     few_threads();
     no_memory();
     ended_threads();

@@ -55,6 +55,17 @@ def runs_each_once():
         check(refusal(call, *arguments), 'NotOpen', f'{call.__name__} of workers that were stopped')
 
 
+def cleanups():
+    finalizers, lock, ran = Finalizers(), threading.Lock(), []
+    with Workers(finalizers, lock, lambda entry: ran.append((entry.reg, entry.obj, entry.cd)), 2) as workers:
+        with lock:
+            numbers = [finalizers.add_cleanup(7, proc=0, cd=10 * n) for n in range(50)]
+            finalizers.queue_cleanups()
+            workers.publish()
+        check((workers.wait(), workers.count().finished), (True, 50), 'cleanups are run')
+    check(sorted(ran), [(number, 0, 10 * n) for n, number in enumerate(numbers)], 'each once, without its object')
+
+
 def raises():
     finalizers, lock = Finalizers(), threading.Lock()
 
@@ -176,7 +187,7 @@ def programs():
         check((ended.returncode, ended.stdout, ended.stderr), (0, printed, ''), where)
 
 
-for test in (runs_each_once, raises, limits, refusals, an_open_pass, programs):
+for test in (runs_each_once, cleanups, raises, limits, refusals, an_open_pass, programs):
     test()
 print(f'{checks} checks, {failures} failed')
 sys.exit(failures > 0)

@@ -138,7 +138,7 @@ def finalized(world, how, slot):
 
 
 class Host:
-    """A host that says yes of odd numbers, or raises at its first question, or gives a `text` as a region's word; and an allocator over the C library."""
+    """A host that says yes of odd numbers, or raises at its first question, or returns `nothing`, or gives a `text` as a region's word; and an allocator over the C library."""
     memory = ctypes.CDLL(None)
     memory.malloc.argtypes, memory.malloc.restype = [ctypes.c_size_t], ctypes.c_void_p
     memory.realloc.argtypes, memory.realloc.restype = [ctypes.c_void_p, ctypes.c_size_t], ctypes.c_void_p
@@ -151,7 +151,7 @@ class Host:
         LIBRARY.noted_question(what, object)
         if self.how in ('throws', 'interrupts'):
             raise (OSError if self.how == 'throws' else KeyboardInterrupt)(1)
-        return object % 2 == 1
+        return None if self.how == 'nothing' else object % 2 == 1
 
     def is_marked(self, object):
         return self._answer(b'is_marked', object)

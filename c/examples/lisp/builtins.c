@@ -94,6 +94,7 @@ static uint64_t bits(value v)
     return (uint64_t)number(v);
 }
 
+static value third(value list) { return second(cdr(list)); }
 static value add(value list) { return integer(bits(car(list)) + bits(second(list))); }
 static value subtract(value list) { return integer(bits(car(list)) - bits(second(list))); }
 static value multiply(value list) { return integer(bits(car(list)) * bits(second(list))); }
@@ -168,6 +169,63 @@ value call_guardian(value guardian, value arguments)
     return field(first, FINALIZER, 2);
 }
 
+/* ---- weak tables: a list of rows. A collection by which a key goes clears both words of its row. */
+
+/* The rest of a list of rows, from the first one on whose key isn't gone. */
+static value without_lost(value rows)
+{
+    while (rows != NIL && field(car(rows), ROW, 1) == NOTHING)
+        rows = cdr(rows);
+    return rows;
+}
+
+/* Drops the rows whose keys are gone, and returns how many are left. */
+static uint64_t drop_lost(value table)
+{
+    value rows = set_field(table, TABLE, 1, without_lost(field(table, TABLE, 1)));
+    uint64_t count = 0;
+
+    for (; rows != NIL; rows = set_field(rows, PAIR, 2, without_lost(cdr(rows))))
+        count++;
+    return count;
+}
+
+/* The row of a key, or NIL. */
+static value row_of(value table, value key)
+{
+    value rows = field(table, TABLE, 1);
+
+    while (rows != NIL && field(car(rows), ROW, 1) != key)
+        rows = cdr(rows);
+    return rows == NIL ? NIL : car(rows);
+}
+
+static value weak_table(value list) { return (void)list, make_weak_table(); }
+static value count_rows(value list) { return integer(drop_lost(car(list))); }
+
+/* (weak-table-ref table key default) */
+static value row_value(value list)
+{
+    value row = row_of(car(list), second(list));
+
+    return row == NIL ? third(list) : field(row, ROW, 2);
+}
+
+/* (weak-table-set! table key value) */
+static value set_row(value list)
+{
+    value table = car(list), row = row_of(table, second(list));
+
+    if (row != NIL)
+        return set_field(row, ROW, 2, third(list));
+    (void)drop_lost(table);
+    row = make_row(second(list), third(list));
+    set_field(table, TABLE, 1, cons(row, field(table, TABLE, 1)));
+    return third(list);
+}
+
+/* ---- what keeps an object */
+
 /* A step of a path, as a program may see it: of a variable its name, of the stack `stack`, of what C alone knows NOTHING. */
 static value seen_step(const value *path, uint64_t n)
 {
@@ -181,7 +239,8 @@ static value seen_step(const value *path, uint64_t n)
 }
 
 /* (why weak): the steps by which a variable, the stack or a finalizer leads to the object of a weak box or a weak pair, which is the last
- * of them; () if nothing leads to it, so that the next collection finds it lost; #f if no object is in it. The list keeps the object. */
+ * of them; () if nothing leads to it, so that the next collection finds it lost, unless a weak table has it as the value of a key; #f if no
+ * object is in it. The list keeps the object. */
 static value why(value list)
 {
     value weak = car(list), path[MOST_STEPS], steps = NIL;
@@ -220,7 +279,9 @@ static const struct { const char *name; uint64_t arguments; value (*call)(value 
     {"print", ANY_NUMBER, print},       {"error", 1, error},
     {"open", 1, open_port},             {"read-line", 1, read_line},
     {"close", 1, close_port},           {"files", 0, count_files},
-    {"why", 1, why},
+    {"why", 1, why},                    {"make-weak-table", 0, weak_table},
+    {"weak-table-ref", 3, row_value},   {"weak-table-set!", 3, set_row},
+    {"weak-table-count", 1, count_rows},
 };
 
 enum { BUILTINS = sizeof builtins / sizeof *builtins };

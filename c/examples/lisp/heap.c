@@ -34,7 +34,7 @@ value set_field(value object, enum type type, uint64_t number, value v)
 
 value make(enum type type, uint64_t count, const value *fields)
 {
-    bool is_scanned = type != STRING && type != WEAK_BOX;
+    bool is_weak = type == WEAK_BOX || (type == ROW && is_object(fields[0])), is_scanned = type != STRING && !is_weak;
     uint64_t kept = type == STRING ? 0 : 2; /* fields to be kept: any others are constants or bytes */
     value made;
 
@@ -86,6 +86,23 @@ value make_weak_box(value v, bool is_long)
 }
 
 value make_guardian(void) { return make(GUARDIAN, 2, (value[]){NIL, NIL}); }
+
+value make_weak_table(void)
+{
+    if (!heap->ephemeron)
+        fail("this heap has no ephemerons", "");
+    return make(TABLE, 1, (value[]){NIL});
+}
+
+/* The word of a key is a long link, and that of its value an ephemeron of the key: so a collection clears both, or neither. */
+value make_row(value key, value v)
+{
+    value row = make(ROW, 2, (value[]){key, v});
+
+    if (is_object(key) && !(heap->link(row, 1, key, true) && heap->ephemeron(row, 2, key)))
+        fail("too many rows of weak tables", "");
+    return row;
+}
 
 /* ---- the stack: objects of a block, each with the one below; a field that isn't in use keeps nothing */
 

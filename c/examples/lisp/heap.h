@@ -1,4 +1,4 @@
-/* What Lisp wants of a heap: objects of words, registers that keep what they lead to, links, finalizers and cleanups. world.c
+/* What Lisp wants of a heap: objects of words, registers that keep what they lead to, links, ephemerons, finalizers and cleanups. world.c
  * has it from a world of derrimas.h, and own.c from the heap of ../own_heap. */
 #ifndef HEAP_H
 #define HEAP_H
@@ -21,6 +21,10 @@ struct heap {
     /* A collection that finds that nothing leads to the target writes 0 to the word; if it is long, one by which the target
      * goes. The object isn't scanned. */
     bool (*link)(value object, uint64_t offset, value target, bool is_long);
+
+    /* Makes the word an ephemeron of the key: it keeps what it leads to as long as something else keeps both the object and the key. A
+     * collection by which the key goes writes 0 to it. The object isn't scanned. NULL in a heap without ephemerons. */
+    bool (*ephemeron)(value object, uint64_t offset, value key);
 
     /* The first collection that finds that nothing else leads to the object calls `finalize` with it, in any order. The data
      * takes the place of that of before, which is in *before, or NIL. */

@@ -38,9 +38,11 @@ enum type {
     WEAK_BOX,  /* the value, or NOTHING since that is gone */
     WEAK_PAIR, /* a weak box with the first, rest */
     GUARDIAN,  /* the first and the last FINALIZER that it has, or NIL */
+    TABLE,     /* of a weak table: a list of ROWs */
     PART,      /* the part of the stack below it, or NIL; values */
     GLOBAL,    /* for each symbol a pair, whose first is the value where the environment has none */
-    FINALIZER  /* the procedure or the guardian, the object since it is gone, the next one */
+    FINALIZER, /* the procedure or the guardian, the object since it is gone, the next one */
+    ROW        /* a key and its value, or NOTHING since the key is gone */
 };
 
 /* Those before PART stand in a table of names, and then the symbols: the forms' first, then the builtins'. A
@@ -70,6 +72,8 @@ value make(enum type type, uint64_t count, const value *fields);
 value make_string(const char *text);
 value make_weak_box(value v, bool is_long); /* long: the value is gone once no finalizer keeps it */
 value make_guardian(void);
+value make_weak_table(void);
+value make_row(value key, value v); /* in which the key keeps the value; a key that is no object stays */
 const char *copy_text(value string, char *text);
 
 void push(value v);

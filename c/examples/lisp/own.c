@@ -22,6 +22,13 @@ static bool link_word(value object, uint64_t offset, value target, bool is_long)
     return derrimas_finalizers_link(&heap.finalizers, kind, own_heap_word(words_of(object), offset), target, NULL) == DERRIMAS_FINALIZERS_OK;
 }
 
+static bool ephemeron_word(value object, uint64_t offset, value key)
+{
+    derrimas_finalizers_link_kind kind = DERRIMAS_FINALIZERS_LONG;
+
+    return derrimas_finalizers_ephemeron(&heap.finalizers, kind, own_heap_word(words_of(object), offset), key, NULL) == DERRIMAS_FINALIZERS_OK;
+}
+
 static bool on_collect_object(value object, uint64_t procedure, value data, value *before)
 {
     derrimas_finalizers_kind kind = DERRIMAS_FINALIZERS_NO_ORDER;
@@ -83,5 +90,5 @@ static void close_own(void)
 
 const struct heap over_own = {
     "own", BLOCKS, open_own, close_own, get_register, set_register, read_word, write_word, alloc,
-    link_word, on_collect_object, when_object_gone, never_mind_object, collect_own, why_object,
+    link_word, ephemeron_word, on_collect_object, when_object_gone, never_mind_object, collect_own, why_object,
 };

@@ -119,5 +119,5 @@ static void close_world(void)
 
 const struct heap over_world = {
     "world", DERRIMAS_MAX_BLOCKS, open_world, close_world, get_register, set_register, read_word, write_word, alloc,
-    link_word, on_collect_object, when_object_gone, never_mind_object, collect_world, NULL,
+    link_word, NULL, on_collect_object, when_object_gone, never_mind_object, collect_world, NULL,
 };

@@ -507,10 +507,11 @@ class OpenPass:
             self.abandon()
 
     def next(self, answers: Answers = 0) -> Optional[Question]:
-        """Takes the answers to the question before, at first any, and returns the next; None where the pass has ended: `did` is what it did then. The answers are
-        a number, and after Ask.MARKS a list with a word for each region: ValueError if it isn't, since an object whose mark is missing would be finalized."""
-        if self.regions and (isinstance(answers, int) or len(answers) != self.regions):
-            raise ValueError(f"the answers are to be {self.regions} words of regions")
+        """Takes the answers to the question before, at first any number, and returns the next; None where the pass has ended: `did` is what it did then. The
+        answers are a number, and after Ask.MARKS a list with a word for each region: ValueError otherwise, since an object whose mark is missing would be
+        finalized."""
+        if isinstance(answers, int) == bool(self.regions) or (self.regions and len(answers) != self.regions):
+            raise ValueError(f"the answers are to be {self.regions} words of regions" if self.regions else "the answers are to be a number")
         asked, word = CQuestion(), c_uint64(answers if isinstance(answers, int) else 0)
         if not isinstance(answers, int):
             asked.marks[:len(answers)] = answers
@@ -529,6 +530,13 @@ class OpenPass:
         self.finalizers._call("abandon")
 
 
+def truth(answer: Any) -> bool:
+    """An answer of a host. TypeError if there is none: taken for False it would have an object finalized or reclaimed that is in use."""
+    if answer is None:
+        raise TypeError("a host answers by True or False, and not by None")
+    return bool(answer)
+
+
 def answers_of(host: Any, question: Question) -> Answers:
     """The answers to a question by the methods of a host: bit i is the answer about what[i], and item i of a list is the word of the region what[i]. What is only
     to be done has none."""
@@ -536,7 +544,7 @@ def answers_of(host: Any, question: Question) -> Answers:
         return [host.marks(first) for first in question.what]
     if question.ask in (Ask.IS_MARKED, Ask.HOLDER_IS_MARKED, Ask.MARK_VALUE):
         asked = getattr(host, {Ask.IS_MARKED: "is_marked", Ask.HOLDER_IS_MARKED: "holder_is_marked"}.get(question.ask, "mark_value"))
-        return sum(bool(asked(what)) << n for n, what in enumerate(question.what))
+        return sum(truth(asked(what)) << n for n, what in enumerate(question.what))
     for what in question.what:
         if question.ask in (Ask.MARK_CHILDREN, Ask.MARK_OTHERS):
             host.mark_children(what, question.ask == Ask.MARK_OTHERS)
