@@ -1,5 +1,6 @@
 """Debian's source package of libgc, built as it is and with finalize.c of this folder in the place of its own, over the finalizers for any heap: for `build`,
-which makes a library to preload, and `run`, which compares the two. The package comes by apt's own client, with lists of its own."""
+which makes a library to preload, and `run`, which compares the two. The package comes by apt's own client, with lists of its own; so does that of Lua for
+c/lua/run."""
 import fcntl, functools, glob, os, re, shutil, signal, subprocess, tempfile
 
 HERE = os.path.dirname(os.path.abspath(__file__))
@@ -73,21 +74,22 @@ def apt(room, *words, folder):
     return must(['apt-get', '-q', *flags, *words], cwd=folder)
 
 
-def source(room):
-    """Puts the package's source into the room, where it stays. Missing where it isn't to be had, or a tool that builds it."""
+def source(room, name='libgc'):
+    """Puts a package's source into the room, where it stays, and returns its folder. Missing where it isn't to be had, or a tool that builds it."""
     for tool, package in (('apt-get', 'apt'), ('dpkg-source', 'dpkg-dev'), ('make', 'make'), (CC, 'gcc'), ('ar', 'binutils')):
         if not shutil.which(tool):
             raise Missing(f'{tool} (apt-get install {package})')
     folder = f'{room}/package'
-    if not os.path.isdir(f'{folder}/libgc'):
+    if not os.path.isdir(f'{folder}/{name}'):
         try:
-            apt(room, 'source', '--download-only', 'libgc', folder=folder)
+            apt(room, 'source', '--download-only', name, folder=folder)
             shutil.rmtree(f'{folder}/unpacked', ignore_errors=True)
-            must(['dpkg-source', '-x', *glob.glob(f'{folder}/libgc_*.dsc')[:1], f'{folder}/unpacked'])
+            must(['dpkg-source', '-x', *glob.glob(f'{folder}/{name}_*.dsc')[:1], f'{folder}/unpacked'])
         except RuntimeError as fault:
             print(fault)
-            raise Missing('source package libgc') from fault
-        os.rename(f'{folder}/unpacked', f'{folder}/libgc')
+            raise Missing(f'source package {name}') from fault
+        os.rename(f'{folder}/unpacked', f'{folder}/{name}')
+    return f'{folder}/{name}'
 
 
 def unpacked(room, name, packages):
