@@ -1,6 +1,7 @@
 -- The items that phases process: links, ephemerons, registrations and cleanups.
 -- code: fz_machine/src/item.rt, listing.rt
-use Rattle.std.specs.Prelude.{◌≡◌, ℕ, ◌+◌, ◌*◌, ◌^◌, false, if◌then◌else◌, List, ◌++◌, map, nat_eq, All}
+use Rattle.std.specs.Prelude.{◌≡◌, ℕ, zero, suc, ◌+◌, ◌*◌, ◌^◌, false, if◌then◌else◌, List, ◌++◌, map, nat_eq, All, refl}
+use Rattle.std.specs.Coded.{Coded, code_by, coded×, coded_ℕ}
 use Rattle.std.specs.List.{IsDistinct}
 use Rattle.std.specs.List.Sorted.{IsPermutation, IsNonDecreasingBy}
 use Rattle.std.specs.Map.{keys_of}
@@ -13,7 +14,8 @@ use Rattle.fz_table.specs.declared.stored.Stored.{Stored}
 use Rattle.fz_table.specs.Tabled.{Set, plain}
 use Rattle.fz_model.specs.declared.kinds.LinkKind.{LinkKind}
 use Rattle.fz_finalizers.specs.declared.cleanups.Attached.{Attached}
-use Rattle.fz_finalizers.specs.declared.kinds.Kind.TheVariants.{Normal, Unreachable}
+use Rattle.fz_finalizers.specs.declared.kinds.Kind.{Kind}
+use Rattle.fz_finalizers.specs.declared.kinds.Kind.TheVariants.{Normal, IgnoreSelf, NoOrder, Unreachable}
 use Rattle.fz_finalizers.specs.Cleanups.{AreDue, is_when}
 use Rattle.fz_finalizers.specs.Kinds.{of_table}
 use Rattle.fz_machine.specs.declared.item.Item.{Item}
@@ -65,3 +67,29 @@ place_of item = item.turn * 2 ^ 64 + item.object
 -- the same items, sorted by this key
 abbrev pub AreInTurn : List Item → List Item → Type 0
 AreInTurn items ordered = IsPermutation items ordered × IsNonDecreasingBy place_of ordered
+
+abbrev kind_code : Coded Kind
+kind_code = code_by ℕ coded_ℕ to back same
+  where
+    to : Kind → ℕ
+    to Normal = 0
+    to IgnoreSelf = 1
+    to NoOrder = 2
+    to Unreachable = 3
+
+    back : ℕ → Kind
+    back zero = Normal
+    back (suc zero) = IgnoreSelf
+    back (suc (suc zero)) = NoOrder
+    back (suc (suc (suc n))) = Unreachable
+
+    same : (k : Kind) → back (to k) ≡ k
+    same Normal = refl
+    same IgnoreSelf = refl
+    same NoOrder = refl
+    same Unreachable = refl
+
+abbrev pub item_code : Coded Item
+item_code =
+    code_by (ℕ × (ℕ × (Kind × ℕ))) (coded× coded_ℕ (coded× coded_ℕ (coded× kind_code coded_ℕ))) (λ i. (i.object, (i.word, (i.kind, i.turn))))
+    (λ p. record { object = p.0; word = p.1.0; kind = p.1.1.0; turn = p.1.1.1 }) (λ _. refl)

@@ -20,6 +20,7 @@ use Rattle.fz_machine.specs.declared.pass.Step.TheVariants as written
 use Rattle.fz_machine.specs.declared.pass.Next.TheVariants.{Asks, Ended}
 use Rattle.fz_finalizers.specs.Follows.{Event, Follows, Take, TakeFinished, Finish, next_pass}
 use Rattle.fz_machine.specs.Going.{going, to_process}
+use Rattle.fz_machine.specs.Off.{PutOff, TellsOff, none_off}
 use Rattle.fz_machine.specs.Regions.{items_in, place_in}
 use Rattle.fz_machine.specs.Steps.{Begins, Going, GoesOn, IsQuestion, steps}
 use Rattle.fz_machine.specs.Walks.{Walk, walk_code}
@@ -194,7 +195,7 @@ pub record IsWorked (old new : Machine) : Type 0 where
 
 -- nothing is listed yet
 abbrev pub at_begin : State → Going
-at_begin s = record { finalizers = s; kept = []; left = []; aside = []; off = [] }
+at_begin s = record { finalizers = s; kept = []; left = []; aside = []; off = none_off }
 
 -- a pass has begun
 pub record IsBegun (old new : Machine) : Type 0 where
@@ -263,3 +264,13 @@ pub record IsAbandoned (old new : Machine) : Type 0 where
   pub by_regions : new.by_regions ≡ old.by_regions
   pub noted : new.noted ≡ old.noted
   pub tabled : new.tabled ≡ old.tabled
+
+-- while values are marked, those that are put off are told by their keys; in other phases nothing is told
+abbrev pub TellsIn : Option Phase → ℕ → PutOff → PutOff → Type 0
+TellsIn (Some (Values moment)) key old new = TellsOff key old new
+TellsIn phase key old new = new ≡ old
+
+-- a host has told that a key is marked: nothing changes but what is put off
+pub record IsTold (key : ℕ) (old new : Machine) : Type 0 where
+  pub off : TellsIn old.phase key old.walk.off new.walk.off
+  pub same : new ≡ record old { walk = record old.walk { off = new.walk.off; off_room = new.walk.off_room } }

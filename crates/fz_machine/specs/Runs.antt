@@ -14,7 +14,7 @@ use Rattle.fz_machine.specs.declared.phase.Phase.TheVariants.{Objects}
 use Rattle.fz_machine.specs.declared.question.Question.{Question}
 use Rattle.fz_machine.specs.Graph.{AreHonestWords, Graph, IsHonest, MayBegin, MayBeAsked}
 use Rattle.fz_machine.specs.Regions.{marks_say}
-use Rattle.fz_machine.specs.Machines.{Machine, AsksRegions, IsBegun, GoesTo, IsWorked, Works}
+use Rattle.fz_machine.specs.Machines.{Machine, AsksRegions, IsBegun, GoesTo, IsTold, IsWorked, Works}
 use Rattle.fz_machine.specs.Phases.{asks, subject}
 
 -- true answers about the first items, one after another, while the graph changes
@@ -24,12 +24,14 @@ AreHonest Exact place value phase (answer ∷ answers) [] old new = ⊥
 AreHonest Exact place value phase (answer ∷ answers) (item ∷ items) old new =
     (between : Graph) × IsHonest Exact place value (asks phase item) (subject phase item) old answer between × AreHonest Exact place value phase answers items between new
 
--- from the begin of a pass, by questions that an honest host has answered; meanwhile workers take and finish entries
+-- from the begin of a pass, by questions that an honest host has answered; meanwhile workers take and finish entries, and the host tells keys, whether they are
+-- marked or not
 pub data Runs (Exact : Type 0) (place : ℕ → Option ℕ) (value : Map Object → ℕ → Option ℕ) (begun : Machine) (before : Graph) : Machine → Graph → Type 0 where
   Begun : Runs Exact place value begun before begun before
   Goes : {m new : Machine} {g after : Graph} {next : Next} (answers : List Bool) (goes : GoesTo m answers new next)
       → Runs Exact place value begun before m g → AreHonest Exact place value goes.phase answers m.walk.left g after → Runs Exact place value begun before new after
   Meanwhile : {m new : Machine} {g : Graph} → IsWorked m new → Runs Exact place value begun before m g → Runs Exact place value begun before new g
+  Told : {m new : Machine} {g : Graph} (key : ℕ) → IsTold key m new → Runs Exact place value begun before m g → Runs Exact place value begun before new g
 
 -- as for `Finalizers::pass_with_ephemerons`: what the model queues and decides, and that marks stay and are closed; what is taken and finished meanwhile might as well be taken
 -- and finished after the pass
