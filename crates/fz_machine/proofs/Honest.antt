@@ -11,6 +11,7 @@ use Rattle.fz_finalizers.specs.States.{State}
 use Rattle.fz_machine.specs.declared.item.Item.{Item}
 use Rattle.fz_machine.specs.declared.phase.Phase.TheVariants.{Objects}
 use Rattle.fz_machine.specs.Graph.{AreHonestWords, Graph, IsHonestWord, graph_of}
+use Rattle.fz_machine.specs.Off.{PutOff}
 use Rattle.fz_machine.specs.Phases.{is_objects}
 use Rattle.fz_machine.specs.Regions.{items_in, items_of, item_at, marks_say, objects_in, place_in, places}
 use Rattle.fz_machine.specs.Runs.{AreHonest, WordsAreAnswers}
@@ -75,14 +76,14 @@ module _ (E : Type 0) (word_of : ℕ → Option ℕ) (value : Map Object → ℕ
       one : (r : Registration) → get b.registrations item.object ≡ Some r → IsTrue (contains_key h.objects item.object)
       one r here = subst (λ m. IsTrue (contains_key m item.object)) (sym is) (registered E word_of value b before begin item.object r here)
 
-module _ (E : Type 0) (word_of : ℕ → Option ℕ) (value : Map Object → ℕ → Option ℕ) (b : State) (before : Graph) (begin : HasBegun word_of b before) (s : State) (kept left aside off : List Item) (h : Graph) where
+module _ (E : Type 0) (word_of : ℕ → Option ℕ) (value : Map Object → ℕ → Option ℕ) (b : State) (before : Graph) (begin : HasBegun word_of b before) (s : State) (kept left aside : List Item) (off : PutOff) (h : Graph) where
   -- registered objects are asked about only behind the round over short cleanups
   in_rounds : rounds.IsIn E word_of value b before Objects s kept left aside off h → AllThere h left
   in_rounds = ⊎_elim (λ (q : rounds.IsFirst E word_of value b before Objects s left h). absurd (true≢false (ap is_objects q.0)))
       (λ (q : rounds.IsBehind E word_of value b before Objects s kept left aside off h).
       each_there E word_of value (after_due b q.0) before (rounds.begin_behind E word_of value b before begin q.0) h q.2.objects_are left q.2.sifted.left_are)
 
-module _ (E : Type 0) (word_of : ℕ → Option ℕ) (value : Map Object → ℕ → Option ℕ) (b : State) (before : Graph) (begin : HasBegun word_of b before) (s : State) (kept left aside off : List Item) (h : Graph) where
+module _ (E : Type 0) (word_of : ℕ → Option ℕ) (value : Map Object → ℕ → Option ℕ) (b : State) (before : Graph) (begin : HasBegun word_of b before) (s : State) (kept left aside : List Item) (off : PutOff) (h : Graph) where
   -- and only once the marks are whole
   all_there : IsIn E word_of value b before Objects s kept left aside off h → AllThere h left
   all_there = ⊎_elim (λ (q : IsOpening E word_of value b before Objects s kept left off h). absurd q.0)

@@ -26,13 +26,14 @@ use Rattle.fz_machine.specs.Going.{going}
 use Rattle.fz_machine.specs.Graph.{Graph, IsHonest, MayBegin, graph_of}
 use Rattle.fz_machine.specs.Items.{AreEphemerons}
 use Rattle.fz_machine.specs.Machines as machines
-use Rattle.fz_machine.specs.Machines.{IsBegun, Machine, Works}
-use Rattle.fz_machine.specs.Phases.{after, aside_in, asks, keeps, next_phase, puts_off, subject}
-use Rattle.fz_machine.specs.Runs.{AreHonest, Begun, Goes, MakesPass, MakesPlainPass, Meanwhile, Runs, RunsPass, RunsPlainPass}
+use Rattle.fz_machine.specs.Machines.{IsBegun, Machine, TellsIn, Works}
+use Rattle.fz_machine.specs.Off.{PutOff, looks_again, put_off}
+use Rattle.fz_machine.specs.Phases.{after, aside_in, asks, keeps, next_phase, subject}
+use Rattle.fz_machine.specs.Runs.{AreHonest, Begun, Goes, MakesPass, MakesPlainPass, Meanwhile, Runs, RunsPass, RunsPlainPass, Told}
 use Rattle.fz_machine.specs.Steps.{Asks, Begins, Ends, Going, GoesOn, Turns, skip, skipped, steps}
 use Rattle.fz_machine.proofs.Begun.{HasBegun}
 use Rattle.fz_machine.proofs.Cleaning.{after_due}
-use Rattle.fz_machine.proofs.Opening.{IsAfter, IsAtEnd, IsIn, IsWhere, begin_found, keep, opens, turn}
+use Rattle.fz_machine.proofs.Opening.{IsAfter, IsAtEnd, IsIn, IsWhere, begin_found, keep, opens, told, turn}
 use Rattle.fz_machine.proofs.Phased as phased
 use Rattle.fz_machine.proofs.Phasing.{kept_on}
 use Rattle.fz_machine.proofs.Rounds.{begin_behind}
@@ -43,32 +44,32 @@ module _ (E : Type 0) (word_of : ℕ → Option ℕ) (value : Map Object → ℕ
   abbrev IsOn : Phase → Going → Graph → Type 0
   IsOn phase g h = IsIn E word_of value b before phase g.finalizers g.kept g.left g.aside g.off h
 
-  abbrev at : State → List Item → List Item → List Item → List Item → Going
+  abbrev at : State → List Item → List Item → List Item → PutOff → Going
   at s kept left aside off = record { finalizers = s; kept = kept; left = left; aside = aside; off = off }
 
   -- answers about the first items
-  steps_keep : (phase : Phase) (answers : List Bool) (s : State) (kept left aside off : List Item) (h new : Graph) → IsIn E word_of value b before phase s kept left aside off h → AreHonest E word_of value phase answers left h new
+  steps_keep : (phase : Phase) (answers : List Bool) (s : State) (kept left aside : List Item) (off : PutOff) (h new : Graph) → IsIn E word_of value b before phase s kept left aside off h → AreHonest E word_of value phase answers left h new
       → IsOn phase (steps phase answers (at s kept left aside off)) new
   steps_keep phase [] s kept left aside off h new p same = subst (λ (x : Graph). IsIn E word_of value b before phase s kept left aside off x) (sym same) p
   steps_keep phase (answer ∷ answers) s kept [] aside off h new p honest = absurd honest
   steps_keep phase (answer ∷ answers) s kept (item ∷ left) aside off h new p (between, is, rest) =
-      steps_keep phase answers (after phase item answer s) (kept_on (keeps phase item answer) kept item) left aside (kept_on (puts_off phase answer) off item) between new
+      steps_keep phase answers (after phase item answer s) (kept_on (keeps phase item answer) kept item) left aside (put_off phase item answer off) between new
       (keep E word_of value b before begin phase s kept left aside off item h between p answer is) rest
 
   -- past items of which nothing is asked
-  skips_keep : (phase : Phase) (left : List Item) (s : State) (kept aside off : List Item) (h : Graph) → IsIn E word_of value b before phase s kept left aside off h → IsOn phase (skipped phase left (at s kept left aside off)) h
+  skips_keep : (phase : Phase) (left : List Item) (s : State) (kept aside : List Item) (off : PutOff) (h : Graph) → IsIn E word_of value b before phase s kept left aside off h → IsOn phase (skipped phase left (at s kept left aside off)) h
   skips_keep phase [] s kept aside off h p = p
-  skips_keep phase (item ∷ left) s kept aside off h p = by (asks phase item) refl (skips_keep phase left (after phase item false s) (kept_on (keeps phase item false) kept item) aside (kept_on (puts_off phase false) off item) h)
+  skips_keep phase (item ∷ left) s kept aside off h p = by (asks phase item) refl (skips_keep phase left (after phase item false s) (kept_on (keeps phase item false) kept item) aside (put_off phase item false off) h)
     where
       next : Going
-      next = at (after phase item false s) (kept_on (keeps phase item false) kept item) left aside (kept_on (puts_off phase false) off item)
+      next = at (after phase item false s) (kept_on (keeps phase item false) kept item) left aside (put_off phase item false off)
 
       by : (o : Option Ask) → asks phase item ≡ o → (IsOn phase next h → IsOn phase (skipped phase left next) h) → IsOn phase (cond (is_some o) (at s kept (item ∷ left) aside off) (skipped phase left next)) h
       by None none rest = rest (keep E word_of value b before begin phase s kept left aside off item h h p false (subst (λ o. IsHonest E word_of value o (subject phase item) h false h) (sym none) refl))
       by (Some ask) some rest = p
 
   -- no item is left
-  none_left : (phase : Phase) (g : Going) (h : Graph) → g.left ≡ [] → IsOn phase g h → IsAfter E word_of value b before (next_phase phase g.kept) g.finalizers g.kept g.aside g.off h
+  none_left : (phase : Phase) (g : Going) (h : Graph) → g.left ≡ [] → IsOn phase g h → IsAfter E word_of value b before (next_phase phase (looks_again g.off)) g.finalizers g.kept g.aside g.off h
   none_left phase g h none p =
       turn E word_of value b before begin phase g.finalizers g.kept g.aside g.off h (subst (λ (xs : List Item). IsIn E word_of value b before phase g.finalizers g.kept xs g.aside g.off h) none p)
 
@@ -77,7 +78,7 @@ module _ (E : Type 0) (word_of : ℕ → Option ℕ) (value : Map Object → ℕ
       subst (λ (s : State). IsIn E word_of value b before phase s k.kept k.left k.aside k.off h) (sym begins.same)
       (subst (λ (xs : List Item). IsIn E word_of value b before phase g.finalizers xs k.left k.aside k.off h) (sym begins.none)
       (subst (λ (xs : List Item). IsIn E word_of value b before phase g.finalizers [] k.left xs k.off h) (sym begins.aside)
-      (subst (λ (xs : List Item). IsIn E word_of value b before phase g.finalizers [] k.left (aside_in phase g.kept g.aside) xs h) (sym begins.off) (after_it k.left begins.lists))))
+      (subst (λ (off : PutOff). IsIn E word_of value b before phase g.finalizers [] k.left (aside_in phase g.kept g.aside) off h) (sym begins.off) (after_it k.left begins.lists))))
 
   goes_keep : (phase : Phase) (g : Going) (last : Option Phase) (k : Going) (h : Graph) → GoesOn phase g last k → IsOn phase g h → IsWhere E word_of value b before last k.finalizers k.kept k.left k.aside k.off h
   goes_keep phase g last k h (Asks item left some) p = skips_keep phase g.left g.finalizers g.kept g.aside g.off h p
@@ -87,6 +88,11 @@ module _ (E : Type 0) (word_of : ℕ → Option ℕ) (value : Map Object → ℕ
       (subst (λ o. IsAfter E word_of value b before o (skip phase g).finalizers (skip phase g).kept (skip phase g).aside (skip phase g).off h) turns (none_left phase (skip phase g) h none (skips_keep phase g.left g.finalizers g.kept g.aside g.off h p))) begins)
   goes_keep phase g last k h (Ends none turns) p =
       subst (λ o. IsAfter E word_of value b before o (skip phase g).finalizers (skip phase g).kept (skip phase g).aside (skip phase g).off h) turns (none_left phase (skip phase g) h none (skips_keep phase g.left g.finalizers g.kept g.aside g.off h p))
+
+  -- the host tells a key
+  told_on : (key : ℕ) (phase : Option Phase) (s : State) (kept left aside : List Item) (was now : PutOff) (h : Graph) → TellsIn phase key was now → IsWhere E word_of value b before phase s kept left aside was h → IsWhere E word_of value b before phase s kept left aside now h
+  told_on key None s kept left aside was now h tells p = p
+  told_on key (Some phase) s kept left aside was now h tells p = told E word_of value b before begin key phase s kept left aside was now h tells p
 
   -- with what was taken and held at the begin
   abbrev passed : Machine → State
@@ -109,6 +115,8 @@ module _ (E : Type 0) (word_of : ℕ → Option ℕ) (value : Map Object → ℕ
       subst (λ (k : Machine). IsWhere E word_of value b before k.phase (passed m) k.walk.kept k.walk.left k.walk.aside k.walk.off h) (sym worked.keeps)
       (subst (λ (s : State). IsWhere E word_of value b before old.phase s old.walk.kept old.walk.left old.walk.aside old.walk.off h)
       (sym (work_apart b.taken b.held old.finalizers.state m.finalizers.state worked.event worked.work worked.follows)) (ran begun old h p runs))
+  ran begun m h p (Told {m = old} key tells runs) =
+      subst (λ (k : Machine). IsAt k h) (sym tells.same) (told_on key old.phase (passed old) old.walk.kept old.walk.left old.walk.aside old.walk.off m.walk.off h tells.off (ran begun old h p runs))
 
   -- what is taken and finished might as well be taken and finished at the end
   works : (begun m : Machine) (h : Graph) → WorksAfter b.taken b.held begun.finalizers.state → Runs E word_of value begun before m h → WorksAfter b.taken b.held m.finalizers.state
@@ -117,6 +125,7 @@ module _ (E : Type 0) (word_of : ℕ → Option ℕ) (value : Map Object → ℕ
       goes_works b.taken b.held goes.phase answers (going old.finalizers old.walk) m.phase (going m.finalizers m.walk) goes.goes (works begun old g p runs)
   works begun m h p (Meanwhile {m = old} worked runs) =
       worked_on b.taken b.held old.finalizers.state m.finalizers.state worked.event worked.work worked.follows (works begun old h p runs)
+  works begun m h p (Told {m = old} key tells runs) = subst (λ (k : Machine). WorksAfter b.taken b.held k.finalizers.state) (sym tells.same) (works begun old h p runs)
 
 -- ---- from the begin to the end
 
@@ -136,7 +145,7 @@ module _ (E : Type 0) (word_of : ℕ → Option ℕ) (value : Map Object → ℕ
       let listed : AreEphemerons b.ephemerons begun.walk.left = subst (λ (s : State). AreEphemerons s.ephemerons begun.walk.left) is.finalizers is.begins.lists in
       subst (λ (s : State). IsIn E word_of value b before (Keys First) s begun.walk.kept begun.walk.left begun.walk.aside begun.walk.off before) (sym is.finalizers)
       (subst (λ (xs : List Item). IsIn E word_of value b before (Keys First) b xs begun.walk.left begun.walk.aside begun.walk.off before) (sym is.begins.none)
-      (subst (λ (xs : List Item). IsIn E word_of value b before (Keys First) b [] begun.walk.left begun.walk.aside xs before) (sym is.begins.off)
+      (subst (λ (off : PutOff). IsIn E word_of value b before (Keys First) b [] begun.walk.left begun.walk.aside off before) (sym is.begins.off)
       (opens E word_of value b before has_begun begun.walk.left begun.walk.aside before refl listed)))
 
   -- nothing is taken or finished yet

@@ -16,7 +16,8 @@ use Rattle.fz_machine.specs.declared.phase.Phase.{Phase}
 use Rattle.fz_machine.specs.declared.phase.Phase.TheVariants.{Keys, KeysAgain, Holders, Values, ShortCleanups, ShortTargets, ShortWords, ShortKeys, ShortKeyWords, Objects, Children, Again, Picks, LateAgain, LatePicks, LongTargets, LongWords, LongKeys, LongKeyWords, ShortHolders, LongHolders, ShortKeyHolders, LongKeyHolders, LongCleanups}
 use Rattle.fz_machine.specs.Machines as machines
 use Rattle.fz_machine.specs.Machines.{IsWork, Works}
-use Rattle.fz_machine.specs.Phases.{Lists, after, asks, given, keeps, next_phase, puts_off, without_key}
+use Rattle.fz_machine.specs.Off.{PutOff, looks_again, put_off}
+use Rattle.fz_machine.specs.Phases.{Lists, after, asks, given, keeps, next_phase, without_key}
 use Rattle.fz_machine.specs.Steps.{Asks, Begins, Ends, Going, GoesOn, Turns, skip, skipped, step, stepped, steps}
 use Rattle.fz_machine.proofs.Phasing.{kept_on}
 use Rattle.fz_machine.proofs.Throughout as throughout
@@ -89,7 +90,7 @@ module _ (taken : ℕ) (held : List Entry) where
       where
         by : (xs : List Item) → stepped phase answer (going_apart g) xs ≡ going_apart (stepped phase answer g xs)
         by [] = refl
-        by (item ∷ left) = λ i. record { finalizers = after_apart phase item answer g.finalizers i; kept = kept_on (keeps phase item answer) g.kept item; left = left; aside = g.aside; off = kept_on (puts_off phase answer) g.off item }
+        by (item ∷ left) = λ i. record { finalizers = after_apart phase item answer g.finalizers i; kept = kept_on (keeps phase item answer) g.kept item; left = left; aside = g.aside; off = put_off phase item answer g.off }
 
     pub steps_apart : (answers : List Bool) (g : Going) → steps phase answers (going_apart g) ≡ going_apart (steps phase answers g)
     steps_apart [] g = refl
@@ -140,10 +141,10 @@ module _ (taken : ℕ) (held : List Entry) where
   goes_apart phase g last k (Asks item left some) =
       subst (λ (m : Going). GoesOn phase (going_apart g) (Some phase) m) (skip_apart phase g) (Asks item left (ap (λ (m : Going). m.left) (skip_apart phase g) ∙ some))
   goes_apart phase g last k (Turns {next = next} {h = h} none turns begins rest) =
-      Turns (ap (λ (m : Going). m.left) (skip_apart phase g) ∙ none) (ap (λ (m : Going). next_phase phase m.kept) (skip_apart phase g) ∙ turns)
+      Turns (ap (λ (m : Going). m.left) (skip_apart phase g) ∙ none) (ap (λ (m : Going). next_phase phase (looks_again m.off)) (skip_apart phase g) ∙ turns)
       (subst (λ (m : Going). Begins next m (going_apart h)) (sym (skip_apart phase g)) (begins_apart next (skip phase g) h begins)) (goes_apart next h last k rest)
   goes_apart phase g last k (Ends none turns) =
-      subst (λ (m : Going). GoesOn phase (going_apart g) None m) (skip_apart phase g) (Ends (ap (λ (m : Going). m.left) (skip_apart phase g) ∙ none) (ap (λ (m : Going). next_phase phase m.kept) (skip_apart phase g) ∙ turns))
+      subst (λ (m : Going). GoesOn phase (going_apart g) None m) (skip_apart phase g) (Ends (ap (λ (m : Going). m.left) (skip_apart phase g) ∙ none) (ap (λ (m : Going). next_phase phase (looks_again m.off)) (skip_apart phase g) ∙ turns))
 
   -- a worker changes nothing else
   pub work_apart : (s t : State) (event : Event) → IsWork event → Follows s event t → apart t ≡ apart s
