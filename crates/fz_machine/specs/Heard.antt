@@ -43,7 +43,7 @@ pub data HearsMarks (begun : Machine) : Machine → ℕ → Type 0 where
   Marks : {m new : Machine} {n : ℕ} (question : Question) → m.phase ≡ Some Objects → AsksRegions m Objects question → PassesOver m new → HearsMarks begun m n → HearsMarks begun new (suc n)
   Others : {m new : Machine} {next : Next} {n : ℕ} (answers : List Bool) → GoesTo m answers new next → HearsMarks begun m n → HearsMarks begun new n
   Beside : {m new : Machine} {n : ℕ} → IsWorked m new → HearsMarks begun m n → HearsMarks begun new n
-  Told : {m new : Machine} {n : ℕ} (key : ℕ) → IsTold key m new → HearsMarks begun m n → HearsMarks begun new n
+  Keyed : {m new : Machine} {n : ℕ} (key : ℕ) → IsTold key m new → HearsMarks begun m n → HearsMarks begun new n
 
 -- at most one question for each 64 regions, and one for those left over
 abbrev pub RegionQuestionsEnd : Type 0
@@ -58,10 +58,10 @@ pub record IsCalled (past : Past) (s : State) : Type 0 where
 
 -- calls lead through a pass, whatever keys are told, and to the state after one is abandoned
 pub data Proceeds (old new : Machine) : Type 0 where
-  Begins : IsBegun old new → Proceeds old new
-  Goes : (answers : List Bool) (next : Next) → GoesTo old answers new next → Proceeds old new
-  Told : (key : ℕ) → IsTold key old new → Proceeds old new
-  Ends : IsAbandoned old new → Proceeds old new
+  Opens : IsBegun old new → Proceeds old new
+  Answered : (answers : List Bool) (next : Next) → GoesTo old answers new next → Proceeds old new
+  Tells : (key : ℕ) → IsTold key old new → Proceeds old new
+  Abandons : IsAbandoned old new → Proceeds old new
 
 abbrev pub PassesAreCalls : Type 0
 PassesAreCalls = (old new : Machine) (past : Past) → IsReached old.finalizers.state past → Proceeds old new → IsCalled past new.finalizers.state
