@@ -1,4 +1,5 @@
 pub mod Kept
+pub mod Index
 pub mod Listed
 pub mod Numbered
 pub mod Gathered

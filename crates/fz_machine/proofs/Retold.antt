@@ -6,6 +6,7 @@ use Rattle.fz_machine.specs.declared.pass.Next.{Next}
 use Rattle.fz_machine.specs.declared.phase.Phase.{Phase}
 use Rattle.fz_machine.specs.declared.phase.Phase.TheVariants.{Objects}
 use Rattle.fz_machine.specs.Going.{going, going_by, HasRoomOff, HasRoomToKeep, IsInOrder, IsSameRoom, KeepsBeside}
+use Rattle.fz_machine.specs.Off.{count_off}
 use Rattle.fz_machine.specs.Phases.{settles, settles_in}
 use Rattle.fz_machine.specs.Machines.{Machine, GoesTo, regions_left}
 use Rattle.fz_machine.specs.Regions.{Regions, AreNoted, items_in, marks_say}
@@ -71,7 +72,7 @@ module _ (f : View) (walk new : Walk) (old regions : Regions) (phase : Option Ph
       let nothing : marks_say f.state (take old.asked old.left) marks ≡ [] = ap (λ rs. marks_say f.state rs marks) (ap (take old.asked) none ∙ none_taken old.asked) in
       let same : going f new ≡ going f walk =
       sym (no_regions f new regions (ended none)) ∙ heard ∙ ap (λ xs. steps Objects xs (going_by f walk old)) nothing ∙ no_regions f walk old none in
-      let many = ap (λ (k : Going). length k.kept + length k.left + length k.off) same in
+      let many = ap (λ (k : Going). length k.kept + length k.left + count_off k.off) same in
       let few = (order.room_off settling).0 in
       let few_off = (order.room_off settling).1 in
       let more = room.1 in

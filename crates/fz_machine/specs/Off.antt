@@ -1,11 +1,12 @@
 -- The ephemerons that are put off while the marks are made whole, since a key or a holder isn't marked.
 -- code: fz_machine/src/rows.rt
-use Rattle.std.specs.Prelude.{◌≡◌, ℕ, ◌+◌, Bool, true, false, not, nat_eq, if◌then◌else◌, List, [], ◌∷◌, ◌++◌, filter, length, refl}
+use Rattle.std.specs.Prelude.{◌≡◌, ℕ, ◌+◌, Bool, true, false, not, nat_eq, if◌then◌else◌, List, [], ◌∷◌, ◌++◌, filter, map, length, refl}
 use Rattle.std.specs.Coded.{Coded, code_by, coded×, coded_ℕ, coded_list, coded_bool}
 use Rattle.std.specs.List.Sorted.{IsPermutation}
 use Rattle.fz_machine.specs.declared.item.Item.{Item}
 use Rattle.fz_machine.specs.declared.phase.Phase.{Phase}
 use Rattle.fz_machine.specs.declared.phase.Phase.TheVariants.{Keys, KeysAgain, Holders, Values}
+use Rattle.fz_machine.specs.declared.rows.Row.{Row}
 use Rattle.fz_machine.specs.Items.{item_code}
 
 -- the ephemerons that are put off
@@ -73,3 +74,26 @@ abbrev pub off_code : Coded PutOff
 off_code =
     code_by ((List Item × List Item) × (List Item × Bool)) (coded× (coded× (coded_list item_code) (coded_list item_code)) (coded× (coded_list item_code) coded_bool)) (λ o. ((o.index, o.stuck), (o.told, o.again)))
     (λ p. record { index = p.0.0; stuck = p.0.1; told = p.1.0; again = p.1.1 }) (λ _. refl)
+
+-- a row of the index of an ephemeron that isn't told yet, and its key
+abbrev pub fresh : Item → Row
+fresh item = record { item = item; told = false }
+
+abbrev pub key_of : Row → ℕ
+key_of row = row.item.object
+
+-- the ephemerons of an index that aren't told
+abbrev pub untold : List Row → List Item
+untold rows = map (λ (row : Row). row.item) (filter (λ (row : Row). not row.told) rows)
+
+-- a row once this key is told
+abbrev pub tell_row : ℕ → Row → Row
+tell_row key row = if nat_eq key (key_of row) then record row { told = true } else row
+
+-- the ephemerons that are put off, and how many can be
+pub record Rows : Type 0 where
+  pub off : PutOff
+  pub room : ℕ
+
+abbrev pub rows_code : Coded Rows
+rows_code = code_by (PutOff × ℕ) (coded× off_code coded_ℕ) (λ r. (r.off, r.room)) (λ p. record { off = p.0; room = p.1 }) (λ _. refl)

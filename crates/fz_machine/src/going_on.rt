@@ -84,7 +84,7 @@ pub(crate) fn go_on(
         if skip_by(finalizers, walk, regions, phase) {
             return Some(phase);
         }
-        let Some(next) = phase.next(walk.kept()) else {
+        let Some(next) = phase.next(walk.looks_again()) else {
             return None;
         };
         phase = next;

@@ -9,6 +9,7 @@ ghost use Rattle.fz_finalizers.specs.declared.cleanups.Attached.{Attached};
 ghost use Rattle.fz_finalizers.specs.Cleanups.{is_when};
 ghost use Rattle.fz_machine.specs.Items.{AreCleanups, AreEntriesOf, AreEphemerons, AreLinks, AreObjects, of_cleanup};
 ghost use Rattle.fz_machine.specs.Going.{ephemerons_in, follows_settling, going, HasRoom, HaveRoom, HasRoomOff, IsListed};
+ghost use Rattle.fz_machine.specs.Off.{none_off};
 ghost use Rattle.fz_machine.specs.Phases.{settles};
 ghost use Rattle.fz_machine.specs.Steps.{Begins};
 
@@ -19,7 +20,7 @@ use fz_finalizers::{Attached, Finalizers};
 use fz_model::LinkKind;
 
 /// Appends an item to the list, which has room for it.
-fn put(items: &mut Vec<Item>, item: Item)
+pub(crate) fn put(items: &mut Vec<Item>, item: Item)
     requires room { vec_len items.old < vec_capacity items.old }
     ensures listed { items.new.items ≡ items.old.items ++ item ∷ [] }
     ensures capacity { vec_capacity items.old ≤ vec_capacity items.new }
@@ -157,7 +158,7 @@ fn walk_cleanups(finalizers: &Finalizers, when: LinkKind, walk: &mut Walk)
 fn walk_rows(finalizers: &Finalizers, walk: &mut Walk)
     requires room { HaveRoom false finalizers.now.state walk.old }
     ensures listed { AreEphemerons finalizers.now.ephemerons walk.new.left }
-    ensures others { walk.new ≡ record walk.new { kept = []; aside = walk.old.kept; off = [] } }
+    ensures others { walk.new ≡ record walk.new { kept = []; aside = walk.old.kept; off = none_off } }
     ensures room { HaveRoom true finalizers.now.state walk.new }
     ensures off { HasRoomOff true walk.new }
 {
@@ -176,7 +177,7 @@ pub(crate) fn begin(finalizers: &Finalizers, walk: &mut Walk, phase: Phase)
 {
     match phase {
         Phase::Keys(_) => walk_rows(finalizers, walk),
-        Phase::KeysAgain(_) => walk.again_off(),
+        Phase::KeysAgain(_) => walk.look_again(),
         Phase::Holders(_) | Phase::Values(_) => walk.again(),
         Phase::ShortCleanups => {
             walk.resume();

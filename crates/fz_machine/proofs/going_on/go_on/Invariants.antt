@@ -16,4 +16,4 @@ invariant-loop-phase l = record {
 }
 
 abbrev pub decreases-loop-phase : goal.decreases-loop-phase
-decreases-loop-phase l = phases_left l.phase l.walk.kept
+decreases-loop-phase l = phases_left l.phase l.walk.off
