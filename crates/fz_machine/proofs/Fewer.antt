@@ -34,7 +34,7 @@ use Rattle.fz_machine.proofs.Phasing.{kept_on}
 use Rattle.fz_machine.proofs.Due.{HasOf, both_kinds, fewer_of}
 use Rattle.fz_machine.proofs.Remaining.{items_same}
 use Rattle.fz_machine.proofs.Stepping.{stops}
-use Rattle.fz_machine.proofs.Telling.{all_off, all_with, tells_moves}
+use Rattle.fz_machine.proofs.Delayed.{all_off, all_with, tells_moves}
 use Rattle.fz_machine.proofs.Within.{IsWithin, still}
 use Rattle.fz_machine.proofs.Working.{work_apart}
 

@@ -31,7 +31,7 @@ pub mod Stated
 pub mod Phasing
 pub mod Choosing
 pub mod Cleaning
-pub mod Telling
+pub mod Delayed
 pub mod Waiting
 pub mod Phased
 pub mod Begun

@@ -70,7 +70,7 @@ module _ (E : Type 0) (word_of : ℕ → Option ℕ) (value : Map Object → ℕ
     -- the host tells a key
     pub told : (key : ℕ) (phase : Phase) (s : State) (kept left aside : List Item) (was now : PutOff) (h : Graph) → TellsIn (Some phase) key was now → IsIn phase s kept left aside was h → IsIn phase s kept left aside now h
     told key phase s kept left aside was now h tells p =
-        ⊎_elim inl (λ (q : IsBehind phase s kept left aside was h). inr (q.0, q.1, keeping.told E word_of value (after_due b q.0) before (begin_behind q.0) key phase s kept left aside was now h tells q.2)) p
+        ⊎_elim (λ (q : IsFirst phase s left h). inl q) (λ (q : IsBehind phase s kept left aside was h). inr (q.0, q.1, keeping.told E word_of value (after_due b q.0) before (begin_behind q.0) key phase s kept left aside was now h tells q.2)) p
 
     -- behind the first round short links are asked about
     links_begin : (s : State) (h : Graph) → Cleaning E word_of value Short b before.objects before.marked s [] h → (items : List Item) → AreLinks s.short items → (aside : List Item) (off : PutOff) → IsIn ShortTargets s [] items aside off h

@@ -39,7 +39,7 @@ use Rattle.fz_machine.proofs.Phased.{IsAfter, IsAtEnd, IsIn, IsSettling, IsUnfou
 use Rattle.fz_machine.proofs.Phasing.{Sifts, Clears, clears_all, clears_begin, holds_all, holds_begin, sifts_begin}
 use Rattle.fz_machine.proofs.Sifting.{IsAt, sifted}
 use Rattle.fz_machine.proofs.Stated.{tabled}
-use Rattle.fz_machine.proofs.Telling.{all_off}
+use Rattle.fz_machine.proofs.Delayed.{all_off}
 use Rattle.fz_machine.proofs.Waiting as waiting
 use Rattle.fz_machine.proofs.Waiting.{is_settled, looks_begin, to_holders, to_keys, to_values}
 

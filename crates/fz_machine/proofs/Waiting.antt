@@ -23,7 +23,7 @@ use Rattle.fz_machine.proofs.Among.{Each, OneOf, each_append, each_as, each_part
 use Rattle.fz_machine.proofs.Entered.{links_all, links_each}
 use Rattle.fz_machine.proofs.Phasing.{kept_on}
 use Rattle.fz_machine.proofs.Sifting.{IsAt}
-use Rattle.fz_machine.proofs.Telling.{all_off, all_with, tells_again, tells_moves}
+use Rattle.fz_machine.proofs.Delayed.{all_off, all_with, tells_again, tells_moves}
 
 -- no value was marked
 none_marked : (again answer : Bool) → cond answer true again ≡ false → (answer ≡ false) × (again ≡ false)
