@@ -355,11 +355,21 @@ derrimas_finalizers_code derrimas_finalizers_begin(derrimas_finalizers *finalize
  * option `marks` it takes time proportional to the regions of registered objects and to the unmarked objects, and not to
  * the registrations. Four times it asks about each ephemeron, and then in rounds, as long as values are marked, about those
  * that still wait for their keys or objects. A chain of n ephemerons, the value of each of which reaches the key of the next,
- * takes n rounds: so n ephemerons take at most time proportional to the square of n.
+ * takes n rounds: so n ephemerons take at most time proportional to the square of n. A host that makes the next call has
+ * rounds about those whose keys were marked.
  * Refused: NOT_OPEN, NO_PASS; EMPTY. */
 derrimas_finalizers_code derrimas_finalizers_next(derrimas_finalizers *finalizers, uint64_t answers,
                                                   derrimas_question *question, derrimas_finalizers_passed *passed)
     DERRIMAS_NONNULL(1, 3);
+
+/* Tells that the host has marked this object while it carries out a question MARK_VALUE: before all others that wait, the
+ * pass asks about the ephemerons of which it is the key. A host may make this call for each object that it marks then and
+ * that wasn't marked. With it a chain of n ephemerons takes time proportional to n times its logarithm. The result of the pass
+ * doesn't depend on it: if an object is left out, told twice, not marked or no key, that changes the time alone. At any other
+ * moment the call does nothing. It takes no memory, and time logarithmic in the ephemerons; the first call after a round about
+ * all that wait sorts these.
+ * Refused: NOT_OPEN. */
+derrimas_finalizers_code derrimas_finalizers_key_marked(derrimas_finalizers *finalizers, uint64_t key) DERRIMAS_NONNULL(1);
 
 /* Ends the open pass before its last question. What it has queued stays queued. A link or an ephemeron whose CLEAR wasn't
  * answered stays one, an object that wasn't queued stays registered, and a cleanup that wasn't queued stays. The host
@@ -635,7 +645,8 @@ static inline bool derrimas_host_is_whole(const derrimas_host *host, const derri
            || counts.short_ephemerons + counts.long_ephemerons == 0;
 }
 
-/* A whole pass, driven by the procedures of a host. They may make the calls that take a const handle, and must return.
+/* A whole pass, driven by the procedures of a host. They may make the calls that take a const handle, and mark_value may call
+ * derrimas_finalizers_key_marked; they must return.
  * *passed, which may be NULL, is what it did. BAD_OPTIONS: the handle was opened with the option `marks`, and the host has
  * no `marks`; is_marked can't be asked instead, since there may be no object at a place of a region. Or there are
  * ephemerons, and the host has no mark_value.

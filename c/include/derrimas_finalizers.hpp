@@ -175,6 +175,9 @@ public:
         return static_cast<link_answer>(answer);
     }
 
+    /* For a host that answers DERRIMAS_ASK_MARK_VALUE, as derrimas_finalizers_key_marked. */
+    void key_marked(std::uint64_t key) { check(derrimas_finalizers_key_marked(&handle_, key)); }
+
     /* The number of the cleanup. */
     std::uint64_t add_cleanup(std::uint64_t object, when when, std::uint64_t proc, std::uint64_t cd, std::uint8_t rank = 0)
     {

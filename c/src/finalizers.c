@@ -368,6 +368,8 @@ code derrimas_finalizers_next(derrimas_finalizers *finalizers, uint64_t answers,
     return it;
 }
 
+code derrimas_finalizers_key_marked(derrimas_finalizers *finalizers, uint64_t key) { return fz_machine_key_marked(finalizers, key); }
+
 code derrimas_finalizers_abandon(derrimas_finalizers *finalizers)
 {
     derrimas_finalizers_counts counts;

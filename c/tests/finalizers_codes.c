@@ -77,6 +77,8 @@ uint8_t fz_machine_move_ephemeron(derrimas_finalizers *f, uint64_t word, uint64_
     return told_link(noted(place, sizeof *place, f == &finalizers, word, to, 4, 0), place);
 }
 
+uint8_t fz_machine_key_marked(derrimas_finalizers *f, uint64_t key) { return noted(NULL, 0, f == &finalizers, key, 5, 0, 0); }
+
 uint8_t fz_machine_add_cleanup(derrimas_finalizers *f, uint64_t object, bool is_long, uint64_t proc, uint64_t cd, uint8_t rank, uint64_t *place)
 {
     uint8_t code = noted(place, sizeof *place, object, is_long, proc, cd, rank);
@@ -310,6 +312,8 @@ static void changes(void)
     THROUGH(linked, derrimas_finalizers_ephemeron(&finalizers, DERRIMAS_FINALIZERS_SHORT, 8, 9, &linked), 1, 0, 8, 9, 2);
     THROUGH(linked, derrimas_finalizers_move_ephemeron(&finalizers, 8, 9, &linked), 1, 8, 9, 4);
     THROUGH(was, derrimas_finalizers_end_ephemeron(&finalizers, 8, &was), 1, 8, 3);
+    IS(derrimas_finalizers_key_marked(&finalizers, 9), answer);
+    IS(given[0] == 1 && given[1] == 9 && given[2] == 5, true);
     IS(derrimas_finalizers_ephemeron(&finalizers, DERRIMAS_FINALIZERS_SHORT, 8, 9, NULL), answer);
     IS(derrimas_finalizers_move_ephemeron(&finalizers, 8, 9, NULL), answer);
     IS(derrimas_finalizers_end_ephemeron(&finalizers, 8, NULL), answer);

@@ -115,6 +115,8 @@ uint8_t fz_machine_move_ephemeron(derrimas_finalizers *f, uint64_t word, uint64_
     return FILLED(noted("move_ephemeron" N N, word, to), answer, uint8_t, (uint8_t)V(0));
 }
 
+uint8_t fz_machine_key_marked(derrimas_finalizers *f, uint64_t key) { return (void)f, noted("key_marked" N, key); }
+
 uint8_t fz_machine_add_cleanup(derrimas_finalizers *f, uint64_t object, bool is_long, uint64_t proc, uint64_t cd, uint8_t rank, uint64_t *number)
 {
     (void)f;

@@ -425,6 +425,7 @@ static const std::map<string, member> members = {
     {"finalizers_ephemeron", SHOWN(f.finalizers.ephemeron(LINK_KIND, a.number(1), a.number(2)))},
     {"finalizers_end_ephemeron", SHOWN(f.finalizers.end_ephemeron(a.number(0)))},
     {"finalizers_move_ephemeron", SHOWN(f.finalizers.move_ephemeron(a.number(0), a.number(1)))},
+    {"finalizers_key_marked", DONE(f.finalizers.key_marked(a.number(0)))},
     {"finalizers_add_cleanup", SHOWN(a.is("default") ? f.finalizers.add_cleanup(a.number(1), finalizers::when::long_cleanup, a.number(2), a.number(3))
                                                      : f.finalizers.add_cleanup(a.number(1), a.kind(moments), a.number(2), a.number(3),
                                                                                 static_cast<std::uint8_t>(a.number(4))))},

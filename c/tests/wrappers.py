@@ -373,6 +373,7 @@ MEMBERS_OF_FINALIZERS = {
     'ephemeron': lambda *arguments: shown(with_kind(OVER.ephemeron)(*arguments)),
     'end_ephemeron': lambda it, word: shown(it.end_ephemeron(word)),
     'move_ephemeron': lambda it, word, to: shown(it.move_ephemeron(word, to)),
+    'key_marked': lambda it, key: done(it.key_marked(key)),
     'add_cleanup': lambda *arguments: shown(with_kind(OVER.add_cleanup, name='when')(*arguments)),
     'cancel': lambda it, number: unregistered(it.cancel(number)),
     'begin': lambda it: abandoned(it, True),

@@ -84,12 +84,15 @@ static void mark_words(own_heap *heap, const object *it, const object *other)
             mark_word(heap, it->words[n]);
 }
 
-static void mark_on(own_heap *heap)
+/* Of a value each object is told that is marked on the way: it may be a key. */
+static void mark_on(own_heap *heap, bool is_value)
 {
     object *it;
 
     while ((it = heap->to_scan)) {
         heap->to_scan = it->next_to_scan;
+        if (is_value)
+            (void)derrimas_finalizers_key_marked(&heap->finalizers, own_heap_number(it->words)); /* can't fail: it is open */
         mark_words(heap, it, NULL);
     }
 }
@@ -107,13 +110,13 @@ static void mark_children(void *data, uint64_t what, bool but_itself)
     object *it = object_at(what);
 
     mark_words(data, it, but_itself ? it : NULL);
-    mark_on(data);
+    mark_on(data, false);
 }
 
 static void mark(void *data, uint64_t what)
 {
     mark_word(data, what);
-    mark_on(data);
+    mark_on(data, false);
 }
 
 static void mark_alone(void *data, uint64_t what)
@@ -142,7 +145,7 @@ static bool mark_value(void *data, uint64_t word)
 
     mark_word(heap, holder_of(word)->words[word >> 48]);
     is_new = heap->to_scan != NULL;
-    mark_on(heap);
+    mark_on(heap, true);
     return is_new;
 }
 
@@ -168,7 +171,7 @@ size_t own_heap_collect(own_heap *heap)
     mark_roots_of_finalizers(heap, DERRIMAS_FINALIZERS_HELD_OBJECTS);
     mark_roots_of_finalizers(heap, DERRIMAS_FINALIZERS_HELD_DATA);
     mark_roots_of_finalizers(heap, DERRIMAS_FINALIZERS_REGISTERED_DATA);
-    mark_on(heap);
+    mark_on(heap, false);
     (void)derrimas_finalizers_pass(&heap->finalizers, &host, heap, NULL); /* can't fail: it is open, and no answer calls it */
     return sweep(heap);
 }

@@ -137,7 +137,7 @@ def library() -> ctypes.CDLL:
         "open": [POINTER(Options)], "reserve": [n, n, n], "shrink": [], "register": [n, kind, n, n, c_uint8, POINTER(n), POINTER(Old)],
         "unregister": [n, POINTER(Old)], "link": [kind, n, n, POINTER(kind)], "unlink": [kind, n, POINTER(c_bool)], "move_link": [kind, n, n, POINTER(kind)],
         "ephemeron": [kind, n, n, POINTER(kind)], "end_ephemeron": [n, POINTER(c_bool)], "move_ephemeron": [n, n, POINTER(kind)],
-        "key": [n, POINTER(kind), POINTER(n)], "ephemerons": [kind, *walk],
+        "key": [n, POINTER(kind), POINTER(n)], "ephemerons": [kind, *walk], "key_marked": [n],
         "add_cleanup": [n, kind, n, n, c_uint8, POINTER(n)], "cancel": [n, POINTER(Old)], "queue_cleanups": [POINTER(n)], "cleanups": walk,
         "cleanup": [n, POINTER(Cleanup)], "begin": [], "next": [n, POINTER(CQuestion), POINTER(Passed)], "abandon": [], "queue_all": [POINTER(n)], "take": [POINTER(Entry)],
         "take_finished": [POINTER(Entry)], "finish": [POINTER(Entry)], "roots": [kind, *walk], "registrations": walk, "links": [kind, *walk],
@@ -272,6 +272,10 @@ class Finalizers:
     def move_ephemeron(self, word: int, to: int) -> LinkAnswer:
         """Moves an ephemeron from the word to the word `to`."""
         return LinkAnswer(self._answer(c_uint32, "move_ephemeron", word, to))
+
+    def key_marked(self, key: int) -> None:
+        """Tells an object that mark_value of a host has marked, so that a pass asks about the ephemerons of this key before the others: the result is the same."""
+        self._call("key_marked", key)
 
     def add_cleanup(self, object: int, proc: int, cd: int = 0, rank: int = 0, when: When = When.LONG) -> int:
         """Adds a cleanup to the object, and returns its number. Its entry comes when the object is lost, with that number and without the object."""

@@ -12,7 +12,7 @@ use std::marker::Model;
 
 /// Finalizers whose pass asks one question after another, for a host that can't be called back.
 ///
-/// A pass is open from `begin` until `next` returns that it has ended. Meanwhile entries can be taken and finished; every other change is refused.
+/// A pass is open from `begin` until `next` returns that it has ended. Meanwhile entries can be taken and finished, and keys told; every other change is refused.
 pub struct Machine {
     pub(crate) finalizers: Finalizers,
     pub(crate) walk: Walk,
