@@ -274,18 +274,18 @@ module _ (E : Type 0) (word_of : ℕ → Option ℕ) (value : Map Object → ℕ
   settles_on moments.Last phase s kept left aside off item h new (w, p) answer honest = (w, looks_on E word_of value clearly (judged E word_of value b before) w.marked phase kept left off item h new p answer honest)
 
   -- the host tells a key
-  settles_told : (key : ℕ) (moment : Moment) (phase : Phase) (s : State) (kept left aside : List Item) (was now : PutOff) (h : Graph) → TellsIn (Some phase) key was now → IsSettling E word_of value b before moment phase s kept left aside was h
-      → IsSettling E word_of value b before moment phase s kept left aside now h
-  settles_told key moments.First phase s kept left aside was now h tells p = absurd p
-  settles_told key moments.Led phase s kept left aside was now h tells (w, p) = (w, looks_told E word_of value clearly (judged E word_of value b before) w.marked key phase kept left was now h tells p)
-  settles_told key moments.Picked phase s kept left aside was now h tells (w, p) = (w, looks_told E word_of value clearly (judged E word_of value b before) w.marked key phase kept left was now h tells p)
-  settles_told key moments.Last phase s kept left aside was now h tells (w, p) = (w, looks_told E word_of value clearly (judged E word_of value b before) w.marked key phase kept left was now h tells p)
+  settles_told : (key : ℕ) (moment : Moment) (phase : Phase) (s : State) (kept left aside : List Item) (older newer : PutOff) (h : Graph) → TellsIn (Some phase) key older newer → IsSettling E word_of value b before moment phase s kept left aside older h
+      → IsSettling E word_of value b before moment phase s kept left aside newer h
+  settles_told key moments.First phase s kept left aside older newer h tells p = absurd p
+  settles_told key moments.Led phase s kept left aside older newer h tells (w, p) = (w, looks_told E word_of value clearly (judged E word_of value b before) w.marked key phase kept left older newer h tells p)
+  settles_told key moments.Picked phase s kept left aside older newer h tells (w, p) = (w, looks_told E word_of value clearly (judged E word_of value b before) w.marked key phase kept left older newer h tells p)
+  settles_told key moments.Last phase s kept left aside older newer h tells (w, p) = (w, looks_told E word_of value clearly (judged E word_of value b before) w.marked key phase kept left older newer h tells p)
 
   -- ---- all phases
 
-  pub told : (key : ℕ) (phase : Phase) (s : State) (kept left aside : List Item) (was now : PutOff) (h : Graph) → TellsIn (Some phase) key was now → IsIn E word_of value b before phase s kept left aside was h → IsIn E word_of value b before phase s kept left aside now h
-  told key (Values moment) s kept left aside was now h tells p = settles_told key moment (Values moment) s kept left aside was now h tells p
-  told key phase s kept left aside was now h tells p = subst (λ (off : PutOff). IsIn E word_of value b before phase s kept left aside off h) (sym tells) p
+  pub told : (key : ℕ) (phase : Phase) (s : State) (kept left aside : List Item) (older newer : PutOff) (h : Graph) → TellsIn (Some phase) key older newer → IsIn E word_of value b before phase s kept left aside older h → IsIn E word_of value b before phase s kept left aside newer h
+  told key (Values moment) s kept left aside older newer h tells p = settles_told key moment (Values moment) s kept left aside older newer h tells p
+  told key phase s kept left aside older newer h tells p = subst (λ (off : PutOff). IsIn E word_of value b before phase s kept left aside off h) (sym tells) p
 
   pub keep : (phase : Phase) (s : State) (kept left aside : List Item) (off : PutOff) (item : Item) (h new : Graph) → IsIn E word_of value b before phase s kept (item ∷ left) aside off h → (answer : Bool)
       → IsHonest E word_of value (asks phase item) (subject phase item) h answer new

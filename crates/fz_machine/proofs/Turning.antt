@@ -1,5 +1,5 @@
 -- From phase to phase, and to the end.
-use Rattle.std.proofs.Common.{◌≡◌, ◌++◌, ◌∷◌, ◌∙◌, [], ℕ, Bool, true, false, not, List, length, refl, sym, ap, subst, inl, inr, ⊎_elim, is_some, append-nil, IsTrue, Option}
+use Rattle.std.proofs.Common.{◌≡◌, ◌++◌, ◌∙◌, [], ℕ, Bool, true, false, not, List, length, refl, sym, ap, subst, inl, inr, ⊎_elim, is_some, append-nil, IsTrue, Option}
 use Rattle.std.specs.FinMap.{retain_keys}
 use Rattle.std.specs.FinSet.{contains}
 use Rattle.fz_model.specs.State.{Map, Object}

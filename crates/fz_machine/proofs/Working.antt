@@ -16,7 +16,7 @@ use Rattle.fz_machine.specs.declared.phase.Phase.{Phase}
 use Rattle.fz_machine.specs.declared.phase.Phase.TheVariants.{Keys, KeysAgain, Holders, Values, ShortCleanups, ShortTargets, ShortWords, ShortKeys, ShortKeyWords, Objects, Children, Again, Picks, LateAgain, LatePicks, LongTargets, LongWords, LongKeys, LongKeyWords, ShortHolders, LongHolders, ShortKeyHolders, LongKeyHolders, LongCleanups}
 use Rattle.fz_machine.specs.Machines as machines
 use Rattle.fz_machine.specs.Machines.{IsWork, Works}
-use Rattle.fz_machine.specs.Off.{PutOff, looks_again, put_off}
+use Rattle.fz_machine.specs.Off.{looks_again, put_off}
 use Rattle.fz_machine.specs.Phases.{Lists, after, asks, given, keeps, next_phase, without_key}
 use Rattle.fz_machine.specs.Steps.{Asks, Begins, Ends, Going, GoesOn, Turns, skip, skipped, step, stepped, steps}
 use Rattle.fz_machine.proofs.Phasing.{kept_on}
