@@ -1,6 +1,6 @@
 -- The phases of a pass: each processes a list, with one question for each item.
 -- code: fz_machine/src/phase.rt, listing.rt
-use Rattle.std.specs.Prelude.{◌≡◌, ℕ, Bool, true, false, not, if◌then◌else◌, List, Option, Some, None}
+use Rattle.std.specs.Prelude.{◌≡◌, ℕ, Bool, true, false, not, if◌then◌else◌, List, [], Option, Some, None}
 use Rattle.std.specs.FinMap.{remove}
 use Rattle.fz_model.specs.declared.kinds.LinkKind.TheVariants.{Short, Long}
 use Rattle.fz_finalizers.specs.declared.kinds.Kind.{Kind}
