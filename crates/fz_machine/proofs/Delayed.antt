@@ -1,9 +1,12 @@
 -- All ephemerons that are put off, whatever the host tells of them.
-use Rattle.std.proofs.Common.{◌≡◌, ◌++◌, ◌∷◌, ◌∙◌, [], ℕ, List, append-nil, append_assoc, ap, filter, nat_eq, not, refl, subst, sym}
+use Rattle.std.proofs.Common.{◌≡◌, ◌≤◌, ◌+◌, ◌++◌, ◌∷◌, ◌∙◌, [], ℕ, suc, Bool, true, false, true≢false, cond, IsTrue, List, append-nil, append_assoc, ap, arith, filter, length-append, nat_eq, not, refl, subst, sym}
 use Rattle.std.proofs.lemmas.List.Sorted.{IsPermutation-append_left, IsPermutation-append_right, IsPermutation-filter_both, IsPermutation-refl, IsPermutation-trans}
 use Rattle.std.specs.List.Sorted.{IsPermutation}
 use Rattle.fz_machine.specs.declared.item.Item.{Item}
-use Rattle.fz_machine.specs.Off.{IsIndexed, PutOff, TellsOff, stuck_with, told_of}
+use Rattle.fz_machine.specs.declared.phase.Phase.{Phase}
+use Rattle.fz_machine.specs.declared.phase.Phase.TheVariants.{Keys, KeysAgain, Holders, Values}
+use Rattle.fz_machine.specs.Off.{IsIndexed, PutOff, TellsOff, count_off, put_off, stuck_with, told_of}
+use Rattle.fz_machine.specs.Phases.{keeps, settles}
 
 -- those that were told come first, and those that were put off last come last
 abbrev pub all_off : PutOff → List Item
@@ -40,3 +43,21 @@ index_again (item ∷ index) old new is = ap (λ (o : PutOff). o.again) is
 
 pub tells_again : (key : ℕ) (old new : PutOff) → TellsOff key old new → new.again ≡ old.again
 tells_again key old new (mid, indexed, told) = ap (λ (o : PutOff). o.again) told ∙ index_again old.index old mid indexed
+
+-- ---- what is kept, left and put off is no more after an answer
+
+asked_few : (item : Item) (answer : Bool) (kept left : ℕ) (off : PutOff) → cond answer (kept + 1) kept + left + count_off (cond answer off (stuck_with off item)) ≤ kept + suc left + count_off off
+asked_few item true kept left off = omega arith
+asked_few item false kept left off = let long = length-append off.stuck (item ∷ []) in omega (arith, long)
+
+marked_few : (answer : Bool) (kept left : ℕ) (off : PutOff) → kept + left + count_off (cond answer (record off { again = true }) off) ≤ kept + suc left + count_off off
+marked_few true kept left off = omega arith
+marked_few false kept left off = omega arith
+
+pub stepped_few : (phase : Phase) (item : Item) (answer : Bool) (kept left : ℕ) (off : PutOff) → IsTrue (settles phase)
+    → cond (keeps phase item answer) (kept + 1) kept + left + count_off (put_off phase item answer off) ≤ kept + suc left + count_off off
+stepped_few (Keys moment) item answer kept left off on = asked_few item answer kept left off
+stepped_few (KeysAgain moment) item answer kept left off on = asked_few item answer kept left off
+stepped_few (Holders moment) item answer kept left off on = asked_few item answer kept left off
+stepped_few (Values moment) item answer kept left off on = marked_few answer kept left off
+stepped_few phase item answer kept left off on = absurd (true≢false (sym on))

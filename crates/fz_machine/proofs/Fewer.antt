@@ -1,5 +1,5 @@
 -- Each answer that is heard leaves fewer to come.
-use Rattle.std.proofs.Common.{◌≡◌, ◌≤◌, ◌<◌, ◌+◌, ◌-◌, ◌*◌, ◌++◌, ◌∷◌, ◌∙◌, [], ℕ, zero, suc, Bool, true, false, cond, refl, slice_get, List, length, map, Option, Some, None, inl, inr, sym, ap, subst, is_some, length-append, add-one, add-mul, mul-add, mul-suc, arith}
+use Rattle.std.proofs.Common.{◌≡◌, ◌≤◌, ◌<◌, ◌+◌, ◌-◌, ◌*◌, ◌++◌, ◌∷◌, ◌∙◌, [], ℕ, zero, suc, Bool, true, false, cond, refl, slice_get, List, length, map, Option, Some, None, inl, inr, sym, ap, subst, is_some, length-append, add-mul, mul-add, mul-suc, arith}
 use Rattle.std.proofs.lemmas.Bool.{true≢false}
 use Rattle.std.proofs.lemmas.List.{length-map}
 use Rattle.std.proofs.lemmas.Option.{none-some}

@@ -32,6 +32,7 @@ pub mod Phasing
 pub mod Choosing
 pub mod Cleaning
 pub mod Delayed
+pub mod Told
 pub mod Waiting
 pub mod Phased
 pub mod Begun
