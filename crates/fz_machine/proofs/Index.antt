@@ -1,15 +1,16 @@
 -- The index of ephemerons that are put off, and those that are told.
-use Rattle.std.proofs.Common.{All, ◌==◌, ◌||◌, ◌⊎◌, ⊎_elim, ◌≡◌, ◌≤◌, ◌<◌, ◌+◌, ◌++◌, ◌∙◌, ℕ, zero, suc, Bool, true, false, true≢false, cond, not, List, [], ◌∷◌, filter, map, take, drop, set, length, get_or, slice_get, nat_eq, nat_lt, Option, Some, None, refl, sym, ap, subst, add-one, append_assoc, append-nil, arith}
+use Rattle.std.proofs.Common.{All, ◌==◌, ◌⊎◌, ⊎_elim, ◌≡◌, ◌≤◌, ◌<◌, ◌+◌, ◌-◌, ◌++◌, ◌∙◌, ℕ, zero, suc, Bool, true, false, true≢false, cond, not, List, [], ◌∷◌, filter, map, take, drop, set, length, get_or, slice_get, nat_eq, nat_lt, Option, Some, None, refl, sym, ap, subst, add-one, append_assoc, append-nil, arith}
+use Rattle.std.proofs.lemmas.Bool.Decides.{nat_tests}
 use Rattle.std.proofs.lemmas.Bool.{cases_lt, eq-eqb, eqb-true, ltb-false, ltb-true}
-use Rattle.std.proofs.lemmas.List.{get_or-drop, get_or-take, length-append, length-drop, length-map, length-take-le, map-append, take-append-drop, take_more}
+use Rattle.std.proofs.lemmas.List.{get_or-drop, get_or-take, length-append, length-drop, length-map, length-take-le, map-append, take-append-drop, take-append-le, take_all, take_more}
 use Rattle.std.proofs.lemmas.List.Elements.{All-head, All-map, All-tail, filter-append}
 use Rattle.std.proofs.lemmas.List.Filters.{length-filter_both}
-use Rattle.std.proofs.lemmas.List.Sorted.{IsPermutation-map, length_permutation}
+use Rattle.std.proofs.lemmas.List.Sorted.{All-permutation, IsPermutation-map, length_permutation}
 use Rattle.std.proofs.lemmas.Option.{none-some, same_Some}
 use Rattle.std.specs.List.Sorted.{IsNonDecreasingBy, IsPartitionPoint, IsPermutation}
 use Rattle.fz_machine.specs.declared.item.Item.{Item}
 use Rattle.fz_machine.specs.declared.rows.Row.{Row}
-use Rattle.fz_machine.specs.Off.{IsIndexed, PutOff, TellsOff, count_off, fresh, is_again, key_of, looked_at, looking, looking_by, none_off, tell_row, told_or, untold}
+use Rattle.fz_machine.specs.Off.{IsIndexed, PutOff, TellsOff, count_off, fresh, key_of, looked_at, looking, looking_by, none_off, of_row, tell_row, told_or, untold}
 
 abbrev pub has : ℕ → Item → Bool
 has key item = nat_eq key item.object
@@ -17,17 +18,13 @@ has key item = nat_eq key item.object
 abbrev pub lacks : ℕ → Item → Bool
 lacks key item = not (nat_eq key item.object)
 
--- those of one row
-abbrev pub of_row : Row → List Item
-of_row row = cond (not row.told) (row.item ∷ []) []
-
 pub untold-append : (xs ys : List Row) → untold (xs ++ ys) ≡ untold xs ++ untold ys
 untold-append xs ys = ap (map (λ (row : Row). row.item)) (filter-append (λ (row : Row). not row.told) xs ys) ∙ map-append (λ (row : Row). row.item) (filter (λ (row : Row). not row.told) xs) (filter (λ (row : Row). not row.told) ys)
 
 pub untold-one : (row : Row) → untold (row ∷ []) ≡ of_row row
 untold-one row = by row.told
   where
-    by : (b : Bool) → map (λ (r : Row). r.item) (cond (not b) (row ∷ []) []) ≡ cond (not b) (row.item ∷ []) []
+    by : (b : Bool) → map (λ (r : Row). r.item) (cond (not b) (row ∷ []) []) ≡ cond b [] (row.item ∷ [])
     by true = refl
     by false = refl
 
@@ -40,6 +37,13 @@ untold_part rows i =
     let all = ap (λ (xs : List Row). length (untold xs)) (take-append-drop i rows) in
     let both = ap length (untold-append (take i rows) (drop i rows)) ∙ length-append (untold (take i rows)) (untold (drop i rows)) in
     omega (arith, all, both)
+
+-- there is room for one more
+pub may_put_row : (rows : List Row) (i : ℕ) (d : Row) → i < length rows → (room long before : ℕ) → long ≡ before + length (untold (take i rows)) → before + length (untold rows) ≤ room → long + length (of_row (get_or rows i d)) ≤ room
+may_put_row rows i d lt room long before is enough =
+    let part = untold_part rows (i + 1) in
+    let more = ap length (untold_more rows i d lt) ∙ length-append (untold (take i rows)) (of_row (get_or rows i d)) in
+    omega (arith, is, part, more, enough)
 
 -- a new index
 pub all_fresh : (items : List Item) → untold (map fresh items) ≡ items
@@ -72,7 +76,7 @@ indexed items rows p none =
 pub untold-cons : (row : Row) (rows : List Row) → untold (row ∷ rows) ≡ of_row row ++ untold rows
 untold-cons row rows = by row.told
   where
-    by : (b : Bool) → map (λ (r : Row). r.item) (cond (not b) (row ∷ filter (λ (r : Row). not r.told) rows) (filter (λ (r : Row). not r.told) rows)) ≡ cond (not b) (row.item ∷ []) [] ++ untold rows
+    by : (b : Bool) → map (λ (r : Row). r.item) (cond (not b) (row ∷ filter (λ (r : Row). not r.told) rows) (filter (λ (r : Row). not r.told) rows)) ≡ cond b [] (row.item ∷ []) ++ untold rows
     by true = refl
     by false = refl
 
@@ -97,7 +101,7 @@ module _ (key : ℕ) where
       now : (t b : Bool) → Row
       now t b = cond b (record { item = row.item; told = true }) (record { item = row.item; told = t })
 
-      by : (t b : Bool) → nat_eq key row.item.object ≡ b → cond (not (now t b).told) ((now t b).item ∷ []) [] ≡ filter (lacks key) (cond (not t) (row.item ∷ []) [])
+      by : (t b : Bool) → nat_eq key row.item.object ≡ b → cond (now t b).told [] ((now t b).item ∷ []) ≡ filter (lacks key) (cond t [] (row.item ∷ []))
       by true true is = refl
       by true false is = refl
       by false true is = sym (ap (λ c. cond (not c) (row.item ∷ []) []) is)
@@ -116,6 +120,14 @@ module _ (key : ℕ) where
       let is = ap length (told_untold rows) in
       omega (arith, both, is)
 
+  -- how many are told now
+  pub told_now : (rows new : List Row) (before told : List Item) → new ≡ map (tell_row key) rows → told ≡ before ++ filter (has key) (untold rows) → (length told - length before) + length (untold new) ≡ length (untold rows)
+  told_now rows new before told new_is told_is =
+      let count = told_count rows in
+      let now = ap (λ (xs : List Row). length (untold xs)) new_is in
+      let long = ap length told_is ∙ length-append before (filter (has key) (untold rows)) in
+      omega (arith, count, now, long)
+
   -- rows of other keys
   abbrev pub AreOthers : List Row → Type 0
   AreOthers rows = (k : ℕ) (d : Row) → k < length rows → nat_eq key (key_of (get_or rows k d)) ≡ false
@@ -133,7 +145,7 @@ module _ (key : ℕ) where
   others_none (row ∷ rows) others =
       ap (filter (has key)) (untold-cons row rows) ∙ filter-append (has key) (of_row row) (untold rows) ∙ (λ i. one row.told i ++ others_none rows (others_rest row rows others) i)
     where
-      one : (b : Bool) → filter (has key) (cond (not b) (row.item ∷ []) []) ≡ []
+      one : (b : Bool) → filter (has key) (cond b [] (row.item ∷ [])) ≡ []
       one true = refl
       one false = ap (λ c. cond c (row.item ∷ []) []) (others 0 row (omega arith))
 
@@ -141,7 +153,7 @@ module _ (key : ℕ) where
   abbrev pub told_to : ℕ → List Row → List Row
   told_to n rows = map (tell_row key) (take n rows) ++ drop n rows
 
-  told_get : (n : ℕ) (rows : List Row) → slice_get (told_to n rows) n ≡ slice_get rows n
+  pub told_get : (n : ℕ) (rows : List Row) → slice_get (told_to n rows) n ≡ slice_get rows n
   told_get zero rows = refl
   told_get (suc n) [] = refl
   told_get (suc n) (row ∷ rows) = told_get n rows
@@ -158,7 +170,7 @@ module _ (key : ℕ) where
   tells_of : (row : Row) → key_of row ≡ key → filter (has key) (of_row row) ≡ of_row row
   tells_of row is = by row.told
     where
-      by : (b : Bool) → filter (has key) (cond (not b) (row.item ∷ []) []) ≡ cond (not b) (row.item ∷ []) []
+      by : (b : Bool) → filter (has key) (cond b [] (row.item ∷ [])) ≡ cond b [] (row.item ∷ [])
       by true = refl
       by false = ap (λ c. cond c (row.item ∷ []) []) (eq-eqb key (key_of row) (sym is))
 
@@ -167,14 +179,14 @@ module _ (key : ℕ) where
     pub record AreTold (from place : ℕ) (now : List Row) (told : List Item) : Type 0 where
       pub low : from ≤ place
       pub index : now ≡ told_to place old
-      pub told : told ≡ before ++ filter (has key) (untold (take place old))
+      pub listed : told ≡ before ++ filter (has key) (untold (take place old))
 
     -- none is told yet
     pub none_told : (from : ℕ) → AreOthers (take from old) → AreTold from from old before
     none_told from others = record {
       low = omega arith;
       index = sym (ap (λ xs. xs ++ drop from old) (others_same (take from old) others) ∙ take-append-drop from old);
-      told = sym (ap (λ xs. before ++ xs) (others_none (take from old) others) ∙ append-nil before);
+      listed = sym (ap (λ xs. before ++ xs) (others_none (take from old) others) ∙ append-nil before);
     }
 
     module _ (from place : ℕ) (now : List Row) (told : List Item) (are : AreTold from place now told) where
@@ -190,24 +202,23 @@ module _ (key : ℕ) where
           record {
             low = omega (arith, low);
             index = ap (λ xs. set xs place (record { item = row.item; told = true })) are.index ∙ ap (λ r. set (told_to place old) place r) (sym (tells_row row is)) ∙ told_set place old row here ∙ ap (λ n. told_to n old) next;
-            told =
-                now_is ∙ ap (λ xs. xs ++ of_row row) are.told ∙ append_assoc before (filter (has key) (untold (take place old))) (of_row row)
+            listed =
+                now_is ∙ ap (λ xs. xs ++ of_row row) are.listed ∙ append_assoc before (filter (has key) (untold (take place old))) (of_row row)
                 ∙ ap (λ xs. before ++ xs)
                 (ap (λ xs. filter (has key) (untold (take place old)) ++ xs) (sym (tells_of row is))
                 ∙ sym (ap (filter (has key)) (untold_more old place row (row_within old place row here) ∙ ap (λ r. untold (take place old) ++ of_row r) (row_is old place row row here)) ∙ filter-append (has key) (untold (take place old)) (of_row row)));
           }
 
       -- there is room for one more
-      pub may_tell : (row : Row) (room : ℕ) → slice_get now place ≡ Some row → key_of row ≡ key → row.told ≡ false → length before + length (untold old) ≤ room → length told < room
-      may_tell row room at is not_yet enough =
+      pub may_tell : (row : Row) (room : ℕ) → slice_get now place ≡ Some row → key_of row ≡ key → length before + length (untold old) ≤ room → length told + length (of_row row) ≤ room
+      may_tell row room at is enough =
           let here = row_of_old row at in
-          let one : of_row row ≡ row.item ∷ [] = ap (λ b. cond (not b) (row.item ∷ []) []) not_yet in
-          let long = ap length are.told ∙ length-append before (filter (has key) (untold (take place old))) in
+          let long = ap length are.listed ∙ length-append before (filter (has key) (untold (take place old))) in
           let few = few_of (untold (take place old)) in
           let part = untold_part old (place + 1) in
           let more =
-          ap length (untold_more old place row (row_within old place row here) ∙ ap (λ r. untold (take place old) ++ of_row r) (row_is old place row row here) ∙ ap (λ xs. untold (take place old) ++ xs) one)
-          ∙ length-append (untold (take place old)) (row.item ∷ []) in
+          ap length (untold_more old place row (row_within old place row here) ∙ ap (λ r. untold (take place old) ++ of_row r) (row_is old place row row here))
+          ∙ length-append (untold (take place old)) (of_row row) in
           omega (arith, long, few, part, more, enough)
         where
           few_of : (xs : List Item) → length (filter (has key) xs) ≤ length xs
@@ -217,7 +228,7 @@ module _ (key : ℕ) where
       pub all_told : AreOthers (drop place old) → (now ≡ map (tell_row key) old) × (told ≡ before ++ filter (has key) (untold old))
       all_told others =
           (are.index ∙ ap (λ xs. map (tell_row key) (take place old) ++ xs) (sym (others_same (drop place old) others)) ∙ sym (map-append (tell_row key) (take place old) (drop place old)) ∙ ap (map (tell_row key)) (take-append-drop place old),
-          are.told
+          are.listed
           ∙ ap (λ xs. before ++ xs)
           (sym (append-nil (filter (has key) (untold (take place old)))) ∙ ap (λ xs. filter (has key) (untold (take place old)) ++ xs) (sym (others_none (drop place old) others))
           ∙ sym (filter-append (has key) (untold (take place old)) (untold (drop place old))) ∙ ap (filter (has key)) (sym (untold-append (take place old) (drop place old)) ∙ ap untold (take-append-drop place old))))
@@ -265,6 +276,12 @@ module _ (key : ℕ) where
         get_at (x ∷ rows) zero d lt = refl
         get_at (x ∷ rows) (suc i) d lt = get_at rows i d (omega (arith, lt))
 
+    -- the rows of the key are told, and the first one behind them isn't of the key
+    pub told_whole : (before : List Item) (place : ℕ) (now : List Row) (told : List Item) → IsNonDecreasingBy key_of old → AreTold old before from place now told → ((row : Row) → slice_get now place ≡ Some row → key_of row ≡ key → ⊥)
+        → (now ≡ map (tell_row key) old) × (told ≡ before ++ filter (has key) (untold old))
+    told_whole before place now told sorted are none =
+        all_told old before from place now told are (others_behind sorted place are.low (λ row at is. none row (ap (λ xs. slice_get xs place) are.index ∙ told_get place old ∙ at) is))
+
   pub still_sorted : (rows : List Row) → IsNonDecreasingBy key_of rows → IsNonDecreasingBy key_of (map (tell_row key) rows)
   still_sorted rows sorted i j d le lt =
       let long = length-map rows (tell_row key) in
@@ -289,19 +306,16 @@ module _ (key : ℕ) where
 
 -- ---- what the next round looks at
 
+not_zero : (n : ℕ) → (suc n == 0) ≡ false
+not_zero n = grind (arith, nat_tests)
+
 pub some_told : (told all : List Item) (off : PutOff) → (length told == 0) ≡ false → (told_or told all ≡ told) × (looking_by told off ≡ record off { told = [] })
 some_told [] all off some = absurd (true≢false some)
 some_told (item ∷ told) all off some = (refl, refl)
 
 pub none_is_told : (told all : List Item) (off : PutOff) → (length told == 0) ≡ true → (told_or told all ≡ all) × (looking_by told off ≡ none_off) × (told ≡ [])
 none_is_told [] all off none = (refl, refl, refl)
-none_is_told (item ∷ told) all off none = absurd (true≢false (sym none))
-
-pub goes_again : (again : Bool) (told : List Item) → is_again again told ≡ (again || not (length told == 0))
-goes_again true [] = refl
-goes_again false [] = refl
-goes_again true (item ∷ told) = refl
-goes_again false (item ∷ told) = refl
+none_is_told (item ∷ told) all off none = absurd (true≢false (sym none ∙ not_zero (length told)))
 
 -- as many are put off and looked at as were put off
 pub looked_count : (off : PutOff) → length (looked_at off) + count_off (looking off) ≡ count_off off
@@ -311,19 +325,37 @@ looked_count off = by off.told
     by [] = let long = length-append off.stuck off.index in omega (arith, long)
     by (item ∷ told) = omega arith
 
--- and as many once a key is told
+-- and as many once the index is made, and once a key is told
+pub indexed_count : (index : List Item) (old new : PutOff) → old.index ≡ index → IsIndexed index old new → count_off new ≡ count_off old
+indexed_count [] old new is h =
+    let few = length_permutation old.stuck new.index h.1 in
+    let now = ap count_off h.0 in
+    let none = ap length is in
+    omega (arith, few, now, none)
+indexed_count (item ∷ index) old new is h = ap count_off h
+
 pub told_off_count : (key : ℕ) (old new : PutOff) → TellsOff key old new → count_off new ≡ count_off old
 told_off_count key old new (mid, is, told) =
-    let same = by old.index is refl in
+    let same = indexed_count old.index old mid refl is in
     let both = length-filter_both (has key) (lacks key) (λ item. refl) mid.index in
     let long = length-append mid.told (filter (has key) mid.index) in
     let now = ap count_off told in
     omega (arith, same, both, long, now)
-  where
-    by : (index : List Item) → IsIndexed index old mid → old.index ≡ index → count_off mid ≡ count_off old
-    by [] h is =
-        let few = length_permutation old.stuck mid.index h.1 in
-        let now = ap count_off h.0 in
-        let none = ap length is in
-        omega (arith, few, now, none)
-    by (item ∷ index) h is = ap count_off h
+
+-- the index stays as long as there are some in it, and is made of those that were put off since
+pub index_stays : (index : List Item) (off : PutOff) → 0 < length index → IsIndexed index off off
+index_stays [] off some = absurd (omega (arith, some))
+index_stays (item ∷ index) off some = refl
+
+pub index_made : (index : List Item) (old new : PutOff) → length index ≡ 0 → IsIndexed [] old new → IsIndexed index old new
+index_made [] old new none h = h
+index_made (item ∷ index) old new none h = absurd (omega (arith, none))
+
+pub index_of : (items : List Item) (before rows : List Row) → before ≡ map fresh items → IsPermutation before rows → IsPermutation items (untold rows)
+index_of items before rows is sorted =
+    let p = subst (λ xs. IsPermutation xs rows) is sorted in
+    indexed items rows p (All-permutation (λ (row : Row). row.told ≡ false) (map fresh items) rows p (fresh_untold items))
+
+-- a list that is written back whole
+pub written_whole : {X : Type 0} (n : ℕ) (xs ys : List X) → n ≡ length xs → take n (xs ++ ys) ≡ xs
+written_whole n xs ys is = take-append-le n xs ys (omega (arith, is)) ∙ take_all n xs (omega (arith, is))

@@ -82,6 +82,10 @@ fresh item = record { item = item; told = false }
 abbrev pub key_of : Row → ℕ
 key_of row = row.item.object
 
+-- the ephemeron of a row, unless it is told
+abbrev pub of_row : Row → List Item
+of_row row = if row.told then [] else row.item ∷ []
+
 -- the ephemerons of an index that aren't told
 abbrev pub untold : List Row → List Item
 untold rows = map (λ (row : Row). row.item) (filter (λ (row : Row). not row.told) rows)

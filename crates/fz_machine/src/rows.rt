@@ -3,7 +3,7 @@
 ghost use Rattle.std.specs.Prelude.{◌≡◌, ◌≤◌, ◌<◌, ◌+◌, ◌++◌, ◌∷◌, [], filter, map, min, nat_eq, nat_lt, length, slice_get, vec_len, vec_capacity, true, None, IfSome, OnOk};
 ghost use Rattle.std.specs.List.Sorted.{IsNonDecreasingBy};
 ghost use Rattle.fz_machine.specs.declared.rows.Row.{Row};
-ghost use Rattle.fz_machine.specs.Off.{IsIndexed, TellsOff, count_off, fresh, key_of, looked_at, looking, looks_again, none_off, stuck_with, tell_row, untold};
+ghost use Rattle.fz_machine.specs.Off.{IsIndexed, TellsOff, count_off, fresh, key_of, looked_at, looking, looks_again, none_off, of_row, stuck_with, tell_row, untold};
 
 use crate::item::Item;
 use crate::listing::put;
@@ -71,6 +71,17 @@ pub(crate) fn make_room<T: Drop>(items: &mut Vec<T>, most: usize) -> Result<(), 
     Ok(())
 }
 
+/// Appends the ephemeron of a row to a list, which has room for it, unless it is told.
+fn put_row(row: Row, items: &mut Vec<Item>)
+    requires room { vec_len items.old + length (of_row row) ≤ vec_capacity items.old }
+    ensures listed { items.new.items ≡ items.old.items ++ of_row row }
+    ensures room { vec_capacity items.old ≤ vec_capacity items.new }
+{
+    if !row.told {
+        put(items, row.item);
+    }
+}
+
 /// Appends the ephemerons of the index that aren't told to a list, which has room for them.
 fn put_untold(index: &[Row], items: &mut Vec<Item>)
     requires room { vec_len items.old + length (untold index.now) ≤ vec_capacity items.old }
@@ -78,9 +89,7 @@ fn put_untold(index: &[Row], items: &mut Vec<Item>)
     ensures room { vec_capacity items.old ≤ vec_capacity items.new }
 {
     for row in index {
-        if !row.told {
-            put(items, row.item);
-        }
+        put_row(*row, items);
     }
 }
 
@@ -129,9 +138,7 @@ fn tell_rows(index: &mut [Row], key: Addr, told: &mut Vec<Item>)
             item: row.item,
             told: true,
         };
-        if !row.told {
-            put(told, row.item);
-        }
+        put_row(row, told);
         place += 1;
     }
 }
@@ -223,13 +230,15 @@ impl Rows {
         self.clear();
     }
 
-    /// Makes the index of those that were put off since the last one, all of whose keys were told.
+    /// If the index is used up, makes one of those that were put off since.
     fn make_index(&mut self)
-        requires none { self.old.off.index ≡ [] }
-        requires room { length self.old.off.stuck ≤ self.old.room }
-        ensures indexed { IsIndexed [] self.old.off self.new.off }
+        requires room { count_off self.old.off ≤ self.old.room }
+        ensures indexed { IsIndexed self.old.off.index self.old.off self.new.off }
         ensures room { self.old.room ≤ self.new.room }
     {
+        if self.remaining > 0 {
+            return;
+        }
         self.index.clear();
         put_rows(&self.stuck, &mut self.index);
         self.index.sort_unstable_by_key(|row| key_of(row));
@@ -243,9 +252,7 @@ impl Rows {
         ensures told { TellsOff key self.old.off self.new.off }
         ensures room { self.old.room ≤ self.new.room }
     {
-        if self.remaining == 0 {
-            self.make_index();
-        }
+        self.make_index();
         let before = self.told.len();
         tell_rows(&mut self.index, key, &mut self.told);
         self.remaining -= self.told.len() - before;
