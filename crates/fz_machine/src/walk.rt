@@ -1,6 +1,6 @@
 //! The list that a phase processes, and the lists beside it.
 
-ghost use Rattle.std.specs.Prelude.{◌≡◌, ◌≤◌, ◌<◌, ◌+◌, ◌^◌, ◌++◌, ◌∷◌, [], if◌then◌else◌, min, drop, length, slice_get, vec_capacity, OnOk, OnErr};
+ghost use Rattle.std.specs.Prelude.{◌≡◌, ◌≤◌, ◌<◌, ◌+◌, ◌^◌, ◌++◌, ◌∷◌, [], if◌then◌else◌, min, drop, length, slice_get, vec_capacity, true, OnOk, OnErr};
 ghost use Rattle.fz_machine.specs.Going.{KeepsBeside};
 ghost use Rattle.fz_machine.specs.Items.{AreInTurn, place_of};
 ghost use Rattle.fz_machine.specs.Off.{TellsOff, count_off, looked_at, looking, looks_again, none_off, stuck_with};
