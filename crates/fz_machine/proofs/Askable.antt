@@ -21,7 +21,7 @@ use Rattle.fz_machine.specs.declared.question.Ask.TheVariants.{MarkAlone}
 use Rattle.fz_machine.specs.Graph.{Graph, CanMark, MayAsk, MayBeAsked, graph_of}
 use Rattle.fz_machine.specs.Off.{PutOff, put_off}
 use Rattle.fz_machine.specs.Phases.{asks, child_ask, pick_ask, subject, after, keeps}
-use Rattle.fz_machine.specs.Runs.{AreAskable, AsksRightly}
+use Rattle.fz_machine.specs.Runs.{AreAskable, AsksRightly, AsksYoungRightly}
 use Rattle.fz_machine.proofs.Begun.{HasBegun, late_led, late_there, normal, others_led, registered}
 use Rattle.fz_machine.proofs.Entered.{IsOfEither}
 use Rattle.fz_machine.proofs.Cleaning.{after_due}
@@ -30,7 +30,7 @@ use Rattle.fz_machine.proofs.Phased as phased
 use Rattle.fz_machine.proofs.Phased.{LeadsOn, PicksLate, PicksOn, clear, judged}
 use Rattle.fz_machine.proofs.Phasing.{kept_on}
 use Rattle.fz_machine.proofs.Choosing as choosing
-use Rattle.fz_machine.proofs.Ran.{where_it_is}
+use Rattle.fz_machine.proofs.Ran.{none_old, where_it_is}
 use Rattle.fz_machine.proofs.Opening.{IsFollowing, IsIn, IsOpening, begin_found, keep}
 use Rattle.fz_machine.proofs.Rounds as rounds
 use Rattle.fz_machine.proofs.Waiting.{looks_may}
@@ -140,7 +140,11 @@ module _ (E : Type 0) (word_of : ℕ → Option ℕ) (value : Map Object → ℕ
         (keep E word_of value b before begin phase s kept left aside off item h between p answer honest),
   )
 
+pub asks_young_rightly : (E : Type 0) → AsksYoungRightly E
+asks_young_rightly E from word_of value old begun new past before after_it phase reached is may_begin seen runs at =
+    let w = where_it_is E word_of value from old begun new past before after_it reached is may_begin seen runs in
+    askable E word_of value w.0 before w.1 phase (apart w.0.taken w.0.held new.finalizers.state) new.walk.kept new.walk.left new.walk.aside new.walk.off after_it (w.2 phase at)
+
 pub asks_rightly : (E : Type 0) → AsksRightly E
 asks_rightly E word_of value old begun new past before after_it phase reached is may_begin runs at =
-    let w = where_it_is E word_of value old begun new past before after_it reached is may_begin runs in
-    askable E word_of value w.0 before w.1 phase (apart w.0.taken w.0.held new.finalizers.state) new.walk.kept new.walk.left new.walk.aside new.walk.off after_it (w.2 phase at)
+    asks_young_rightly E 0 word_of value old begun new past before after_it phase reached is may_begin (none_old old.finalizers.state before) runs at

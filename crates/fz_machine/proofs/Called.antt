@@ -63,7 +63,7 @@ module _ (past : Past) (s : State) (c : IsCalled past s) where
   called LongCleanups item answer = cases answer s (queued_cleanup s item.word) c (cleaned item.word)
 
 pub passes_are_calls : PassesAreCalls
-passes_are_calls old new past reached (Opens begun) = record { later = past; reached = Then Begin reached begun.finalizers; taken = refl; finished = refl }
+passes_are_calls old new past reached (Opens from begun) = record { later = past; reached = Then Begin reached begun.finalizers; taken = refl; finished = refl }
 passes_are_calls old new past reached (Answered answers next goes) =
     let kept = λ (phase : Phase) (item : Item) (answer : Bool) (s : State) (c : IsCalled past s). called past s c phase item answer in
     let start : IsCalled past old.finalizers.state = record { later = past; reached = reached; taken = refl; finished = refl } in

@@ -8,7 +8,7 @@ use Rattle.fz_machine.specs.declared.phase.Phase.TheVariants.{Keys, KeysAgain, H
 use Rattle.fz_machine.specs.declared.item.Item.{Item}
 use Rattle.fz_machine.specs.Going.{follows_settling}
 use Rattle.fz_machine.specs.Off.{PutOff, looking, looks_again}
-use Rattle.fz_machine.specs.Phases.{behind, is_objects, next_phase, off_in, settles}
+use Rattle.fz_machine.specs.Phases.{Scope, behind, is_objects, next_phase, off_in, settles}
 use Rattle.fz_machine.specs.Steps.{Going, skip, skipped, Begins, GoesOn, Asks, Turns, Ends}
 
 -- how many phases lie behind the marks that are made whole at a moment
@@ -242,12 +242,12 @@ pub no_left : (xs : List Item) → is_some (slice_get xs 0) ≡ false → xs ≡
 no_left [] h = refl
 no_left (item ∷ xs) h = absurd (true≢false h)
 
-module _ (phase : Phase) (g k : Going) (skipped : k ≡ skip phase g) where
-  pub asks_on : is_some (slice_get k.left 0) ≡ true → GoesOn phase g (Some phase) k
-  asks_on some = let found = some_left k.left some in subst (λ (h : Going). GoesOn phase g (Some phase) h) (sym skipped) (Asks found.0 (drop 1 k.left) (sym (ap (λ (h : Going). h.left) skipped) ∙ found.1))
+module _ {scope : Scope} (phase : Phase) (g k : Going) (skipped : k ≡ skip phase g) where
+  pub asks_on : is_some (slice_get k.left 0) ≡ true → GoesOn scope phase g (Some phase) k
+  asks_on some = let found = some_left k.left some in subst (λ (h : Going). GoesOn scope phase g (Some phase) h) (sym skipped) (Asks found.0 (drop 1 k.left) (sym (ap (λ (h : Going). h.left) skipped) ∙ found.1))
 
-  pub turns_on : (next : Phase) (h : Going) → is_some (slice_get k.left 0) ≡ false → next_phase phase (looks_again k.off) ≡ Some next → Begins next k h → (last : Option Phase) (m : Going) → GoesOn next h last m → GoesOn phase g last m
-  turns_on next h none turns begins last m rest = Turns (sym (ap (λ (j : Going). j.left) skipped) ∙ no_left k.left none) (ap (λ (j : Going). next_phase phase (looks_again j.off)) (sym skipped) ∙ turns) (subst (λ (j : Going). Begins next j h) skipped begins) rest
+  pub turns_on : (next : Phase) (h : Going) → is_some (slice_get k.left 0) ≡ false → next_phase phase (looks_again k.off) ≡ Some next → Begins scope next k h → (last : Option Phase) (m : Going) → GoesOn scope next h last m → GoesOn scope phase g last m
+  turns_on next h none turns begins last m rest = Turns (sym (ap (λ (j : Going). j.left) skipped) ∙ no_left k.left none) (ap (λ (j : Going). next_phase phase (looks_again j.off)) (sym skipped) ∙ turns) (subst (λ (j : Going). Begins scope next j h) skipped begins) rest
 
-  pub ends_on : is_some (slice_get k.left 0) ≡ false → next_phase phase (looks_again k.off) ≡ None → GoesOn phase g None k
-  ends_on none ends = subst (λ (h : Going). GoesOn phase g None h) (sym skipped) (Ends (sym (ap (λ (j : Going). j.left) skipped) ∙ no_left k.left none) (ap (λ (j : Going). next_phase phase (looks_again j.off)) (sym skipped) ∙ ends))
+  pub ends_on : is_some (slice_get k.left 0) ≡ false → next_phase phase (looks_again k.off) ≡ None → GoesOn scope phase g None k
+  ends_on none ends = subst (λ (h : Going). GoesOn scope phase g None h) (sym skipped) (Ends (sym (ap (λ (j : Going). j.left) skipped) ∙ no_left k.left none) (ap (λ (j : Going). next_phase phase (looks_again j.off)) (sym skipped) ∙ ends))

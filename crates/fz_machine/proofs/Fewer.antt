@@ -1,5 +1,5 @@
 -- Each answer that is heard leaves fewer to come.
-use Rattle.std.proofs.Common.{◌≡◌, ◌≤◌, ◌<◌, ◌+◌, ◌-◌, ◌*◌, ◌++◌, ◌∷◌, ◌∙◌, [], ℕ, zero, suc, Bool, true, false, cond, refl, slice_get, List, length, map, Option, Some, None, inl, inr, sym, ap, subst, is_some, length-append, add-mul, mul-add, mul-suc, arith}
+use Rattle.std.proofs.Common.{◌≡◌, ◌≤◌, ◌<◌, ◌+◌, ◌-◌, ◌*◌, ◌++◌, ◌∷◌, ◌∙◌, [], ℕ, zero, suc, Bool, true, false, cond, refl, slice_get, filter, get_or, nat_le, List, length, map, Option, Some, None, inl, inr, sym, ap, subst, is_some, length-append, add-mul, mul-add, mul-suc, arith}
 use Rattle.std.proofs.lemmas.Bool.{true≢false}
 use Rattle.std.proofs.lemmas.List.{length-map}
 use Rattle.std.proofs.lemmas.Option.{none-some}
@@ -8,6 +8,8 @@ use Rattle.std.specs.FinMap.{len, remove}
 use Rattle.fz_model.specs.declared.answers.Registration.{Registration}
 use Rattle.fz_model.specs.State.{Map}
 use Rattle.fz_model.proofs.KeyedEntries.{len_made}
+use Rattle.fz_model.proofs.Maps.{retained_back}
+use Rattle.fz_table.specs.declared.stored.Stored.{Stored}
 use Rattle.fz_table.specs.Tabled.{Set, plain}
 use Rattle.fz_model.specs.declared.kinds.LinkKind.{LinkKind}
 use Rattle.fz_model.specs.declared.kinds.LinkKind.TheVariants.{Short, Long}
@@ -25,9 +27,10 @@ use Rattle.fz_machine.specs.declared.phase.Phase.TheVariants.{Keys, KeysAgain, H
 use Rattle.fz_machine.specs.Going.{going}
 use Rattle.fz_machine.specs.Heard.{Begun, Goes, Hears, Meanwhile, PassesEnd, Told, covered}
 use Rattle.fz_machine.specs.Items.{AreCleanups, AreEntriesOf, AreEphemerons, AreLinks, AreObjects, of_cleanup, of_link, of_stored}
+use Rattle.fz_machine.specs.Machines as machines
 use Rattle.fz_machine.specs.Machines.{IsWork, Machine, Tells, TellsIn}
 use Rattle.fz_machine.specs.Off.{PutOff, TellsOff, looked_at, looking, looks_again, none_off, put_off, stuck_with}
-use Rattle.fz_machine.specs.Phases.{Lists, after, aside_in, asks, behind, given, keeps, next_phase, off_in}
+use Rattle.fz_machine.specs.Phases.{Scope, Lists, after, aside_in, asks, behind, given, keeps, next_phase, off_in}
 use Rattle.fz_machine.specs.Regions.{items_in}
 use Rattle.fz_machine.specs.Steps.{Asks, Ends, Going, GoesOn, Turns, skip, skipped, steps}
 use Rattle.fz_machine.proofs.Phasing.{kept_on}
@@ -212,6 +215,14 @@ is_values phase = false
 not_values : (moment : Moment) → Some (Keys First) ≡ Some (Values moment) → ⊥
 not_values moment is = true≢false (sym (ap is_values is))
 
+fewer_young : {X : Type 0} (p : X → Bool) (xs : List X) → length (filter p xs) ≤ length xs
+fewer_young p [] = omega arith
+fewer_young p (x ∷ xs) = by (p x) (fewer_young p xs)
+  where
+    by : (b : Bool) → length (filter p xs) ≤ length xs → length (cond b (x ∷ filter p xs) (filter p xs)) ≤ suc (length xs)
+    by true le = omega (arith, le)
+    by false le = omega (arith, le)
+
 some_left : (xs : List Item) (x : Item) → slice_get xs 0 ≡ Some x → 0 < length xs
 some_left [] x h = absurd (none-some x h)
 some_left (y ∷ ys) x h = omega arith
@@ -364,21 +375,25 @@ module _ (r s g es el sc l : ℕ) where
       let few_long = links_few k.long longs long in
       omega (arith, all, few_short, few_long)
 
-  objects_few : (registrations : Map Registration) (late : Set) (items : List Item) → AreObjects registrations late items → length items ≡ len registrations
-  objects_few registrations late items are = ap length are.3 ∙ length-map are.0 of_stored ∙ sym (length-map are.0 plain) ∙ entries registrations (map plain are.0) are.1
+  objects_few : (from : ℕ) (registrations : Map Registration) (late : Set) (items : List Item) → AreObjects from registrations late items → length items ≤ len registrations
+  objects_few from registrations late items are =
+      let few = fewer_young (λ (e : ℕ × Stored). nat_le from e.1.number) are.0 in
+      let long = ap length are.3 ∙ length-map (filter (λ (e : ℕ × Stored). nat_le from e.1.number) are.0) of_stored in
+      let all = sym (length-map are.0 plain) ∙ entries registrations (map plain are.0) are.1 in
+      omega (arith, few, long, all)
 
-  cleanups_few : (when : LinkKind) (n : ℕ) (cleanups : Map Attached) (items : List Item) → HasOf when n cleanups → AreCleanups when cleanups items → length items ≤ n
-  cleanups_few when n cleanups items has are =
+  cleanups_few : (from : ℕ) (when : LinkKind) (n : ℕ) (cleanups : Map Attached) (items : List Item) → HasOf when n cleanups → AreCleanups from when cleanups items → length items ≤ n
+  cleanups_few from when n cleanups items has are =
       let same = ap length are.2 ∙ length-map are.0 of_cleanup in
-      let few = has are.0 (record { each = are.1.each; ordered = are.1.ordered }) in
+      let few = has are.0 (record { each = λ k d within. let one = are.1.each k d within in ((retained_back cleanups (nat_le from) (get_or are.0 k d).0 (get_or are.0 k d).1 one.0).1, one.1); ordered = are.1.ordered }) in
       omega (arith, same, few)
 
-  module _ (t : State) (h : IsFit t) where
+  module _ (scope : Scope) (t : State) (h : IsFit t) where
     -- the next phase begins with no more to come
     abbrev IsFewer : Phase → List Item → List Item → PutOff → Option Phase → Type 0
     IsFewer phase kept aside off None = Unit {0}
     IsFewer phase kept aside off (Some next) =
-        (items : List Item) → Lists next t (given next kept aside off) items
+        (items : List Item) → Lists next scope t (given next kept aside off) items
         → to_come (Some next) 0 (length items) (length (aside_in next kept aside)) (size_of (off_in next off)) ≤ to_come (Some phase) (length kept) 0 (length aside) (size_of off)
 
     rows_begin : (items : List Item) → AreEphemerons t.ephemerons items → keys_to_come 0 (length items) (size_of none_off) ≤ most e
@@ -407,7 +422,7 @@ module _ (r s g es el sc l : ℕ) where
         (let few = values_begin (length kept) (length (all_off off)) (length off.told) off.again (length kept + 0 + length (all_off off)) (omega arith) in omega (arith, few))
 
     behind_turn : (moment : Moment) (kept aside : List Item) (off : PutOff) → IsFewer (Values moment) kept aside off (Some (behind moment))
-    behind_turn First kept aside off = λ items are. let few = cleanups_few Short sc t.cleanups items h.attached.0 are in omega (arith, few)
+    behind_turn First kept aside off = λ items are. let few = cleanups_few scope.cleanups Short sc t.cleanups items h.attached.0 are in omega (arith, few)
     behind_turn Led kept aside off = λ items is. let same = ap length is in omega (arith, same)
     behind_turn Picked kept aside off = λ items is. let same = ap length is in omega (arith, same)
     behind_turn Last kept aside off = λ items are. let many = links_few t.long items are in let few = h.long in omega (arith, many, few)
@@ -425,7 +440,7 @@ module _ (r s g es el sc l : ℕ) where
     turns_fewer ShortTargets kept aside off = λ items is. let same = ap length is in omega (arith, same)
     turns_fewer ShortWords kept aside off = λ items are. let many = links_few t.ephemerons.short items are in let few = h.short_keys in omega (arith, many, few)
     turns_fewer ShortKeys kept aside off = λ items is. let same = ap length is in omega (arith, same)
-    turns_fewer ShortKeyWords kept aside off = λ items are. let many = objects_few t.registrations t.late items are in let few = h.registered in omega (arith, many, few)
+    turns_fewer ShortKeyWords kept aside off = λ items are. let many = objects_few scope.registrations t.registrations t.late items are in let few = h.registered in omega (arith, many, few)
     turns_fewer Objects kept aside off = λ items is. let same = ap length is in omega (arith, same)
     turns_fewer Children kept aside off = λ items are. let few = rows_begin items are in omega (arith, few)
     turns_fewer Again kept aside off = λ items turned. let same = length_permutation kept items turned.0 in omega (arith, same)
@@ -439,17 +454,17 @@ module _ (r s g es el sc l : ℕ) where
     turns_fewer ShortHolders kept aside off = λ items are. let many = links_few t.long items are in let few = h.long in omega (arith, many, few)
     turns_fewer LongHolders kept aside off = λ items are. let many = links_few t.ephemerons.short items are in let few = h.short_keys in omega (arith, many, few)
     turns_fewer ShortKeyHolders kept aside off = λ items are. let many = links_few t.ephemerons.long items are in let few = h.long_keys in omega (arith, many, few)
-    turns_fewer LongKeyHolders kept aside off = λ items are. let few = cleanups_few Long l t.cleanups items h.attached.1 are in omega (arith, few)
+    turns_fewer LongKeyHolders kept aside off = λ items are. let few = cleanups_few scope.cleanups Long l t.cleanups items h.attached.1 are in omega (arith, few)
     turns_fewer LongCleanups kept aside off = tt
 
-  goes_fewer : (phase : Phase) (k : Going) (last : Option Phase) (m : Going) → GoesOn phase k last m → IsFit k.finalizers → IsFit m.finalizers × (to_come_in last m ≤ to_come_in (Some phase) k)
+  goes_fewer : {scope : Scope} (phase : Phase) (k : Going) (last : Option Phase) (m : Going) → GoesOn scope phase k last m → IsFit k.finalizers → IsFit m.finalizers × (to_come_in last m ≤ to_come_in (Some phase) k)
   goes_fewer phase k last m (Asks item left some) h = skip_fewer phase k h
-  goes_fewer phase k last m (Turns {next = next} {h = n} none turns begins rest) h =
+  goes_fewer {scope = scope} phase k last m (Turns {next = next} {h = n} none turns begins rest) h =
       let past = skip_fewer phase k h in
       let p = skip phase k in
       let on = goes_fewer next n last m rest (subst IsFit (sym begins.same) past.0) in
       let turn : to_come (Some next) 0 (length n.left) (length (aside_in next p.kept p.aside)) (size_of (off_in next p.off)) ≤ to_come (Some phase) (length p.kept) 0 (length p.aside) (size_of p.off) =
-      subst (IsFewer p.finalizers past.0 phase p.kept p.aside p.off) turns (turns_fewer p.finalizers past.0 phase p.kept p.aside p.off) n.left begins.lists in
+      subst (IsFewer scope p.finalizers past.0 phase p.kept p.aside p.off) turns (turns_fewer scope p.finalizers past.0 phase p.kept p.aside p.off) n.left begins.lists in
       let here : to_come_in (Some next) n ≤ to_come (Some phase) (length p.kept) 0 (length p.aside) (size_of p.off) =
       subst (λ (x : Going). to_come_in (Some next) x ≤ to_come (Some phase) (length p.kept) 0 (length p.aside) (size_of p.off))
       (λ i. record { finalizers = n.finalizers; kept = sym begins.none i; left = n.left; aside = sym begins.aside i; off = sym begins.off i }) turn in
@@ -550,7 +565,7 @@ none_before : (a b : ℕ) → a ≤ b → 0 + a ≤ b
 none_before a b le = omega (arith, le)
 
 pub passes_end : PassesEnd
-passes_end old begun m n is hears =
+passes_end from old begun m n is hears =
     let t = old.finalizers.state in
     let r = len t.registrations in
     let s = len t.short in
@@ -562,7 +577,7 @@ passes_end old begun m n is hears =
     let l = kinds.1 in
     let fit : IsFit r s g es el sc l t = record { registered = omega arith; short = omega arith; long = omega arith; short_keys = omega arith; long_keys = omega arith; attached = (kinds.2, kinds.3) } in
     let listed : AreEphemerons t.ephemerons begun.walk.left = subst (λ (u : State). AreEphemerons u.ephemerons begun.walk.left) is.finalizers is.begins.lists in
-    let few = rows_begin r s g es el sc l t fit begun.walk.left listed in
+    let few = rows_begin r s g es el sc l (machines.scope begun) t fit begun.walk.left listed in
     let first : to_come r s g es el sc l (Some (Keys First)) 0 (length begun.walk.left) 0 (size_of none_off) ≤ all_to_come r s g es el sc l = omega (arith, few) in
     let start : IsHearing r s g es el sc l 0 begun = record {
       within = subst (IsFit r s g es el sc l) (sym is.finalizers) (record { registered = omega arith; short = omega arith; long = omega arith; short_keys = omega arith; long_keys = omega arith; attached = (kinds.2, kinds.3) });

@@ -14,7 +14,7 @@ use Rattle.fz_machine.specs.Graph.{AreHonestWords, Graph, IsHonestWord, graph_of
 use Rattle.fz_machine.specs.Off.{PutOff}
 use Rattle.fz_machine.specs.Phases.{is_objects}
 use Rattle.fz_machine.specs.Regions.{items_in, items_of, item_at, marks_say, objects_in, place_in, places}
-use Rattle.fz_machine.specs.Runs.{AreHonest, WordsAreAnswers}
+use Rattle.fz_machine.specs.Runs.{AreHonest, WordsAreAnswers, YoungWordsAreAnswers}
 use Rattle.fz_machine.proofs.Among.{Each}
 use Rattle.fz_machine.proofs.Begun.{HasBegun, registered}
 use Rattle.fz_machine.proofs.Cleaning.{after_due}
@@ -23,7 +23,7 @@ use Rattle.fz_machine.proofs.Marked.{item_is, places_below}
 use Rattle.fz_machine.proofs.Opening.{IsFollowing, IsIn, IsOpening, begin_found}
 use Rattle.fz_machine.proofs.Phased as phased
 use Rattle.fz_machine.proofs.Places.{place_back}
-use Rattle.fz_machine.proofs.Ran.{where_it_is}
+use Rattle.fz_machine.proofs.Ran.{none_old, where_it_is}
 use Rattle.fz_machine.proofs.Rounds as rounds
 use Rattle.fz_machine.proofs.Working.{apart}
 
@@ -90,10 +90,14 @@ module _ (E : Type 0) (word_of : ℕ → Option ℕ) (value : Map Object → ℕ
       (λ (q : IsFollowing E word_of value b before Objects s kept left aside off h).
       in_rounds E word_of value b (graph_of before.objects q.0) (begin_found E word_of value b before begin q.0 q.1) s kept left aside off h q.2)
 
-pub words_are_answers : (E : Type 0) → WordsAreAnswers E
-words_are_answers E word_of value old begun m past before g question words reached is may_begin runs at asks honest =
-    let w = where_it_is E word_of value old begun m past before g reached is may_begin runs in
+pub young_words_are_answers : (E : Type 0) → YoungWordsAreAnswers E
+young_words_are_answers E from word_of value old begun m past before g question words reached is may_begin seen runs at asks honest =
+    let w = where_it_is E word_of value from old begun m past before g reached is may_begin seen runs in
     let there = all_there E word_of value w.0 before w.1 (apart w.0.taken w.0.held m.finalizers.state) m.walk.kept m.walk.left m.walk.aside m.walk.off g (w.2 Objects at) in
     let whole = asks.first.1 in
     subst (λ xs. AreHonest E word_of value Objects (marks_say m.finalizers.state m.regions words) xs g g) (sym whole)
     (all_regions E word_of value g m.finalizers.state m.regions words asks.first.0 asks.begin (subst (AllThere g) whole there) honest)
+
+pub words_are_answers : (E : Type 0) → WordsAreAnswers E
+words_are_answers E word_of value old begun m past before g question words reached is may_begin runs at asks honest =
+    young_words_are_answers E 0 word_of value old begun m past before g question words reached is may_begin (none_old old.finalizers.state before) runs at asks honest

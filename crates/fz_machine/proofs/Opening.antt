@@ -14,7 +14,7 @@ use Rattle.fz_machine.specs.Graph.{Graph, IsHonest, graph_of}
 use Rattle.fz_machine.specs.Items.{AreCleanups, AreEphemerons}
 use Rattle.fz_machine.specs.Machines.{TellsIn}
 use Rattle.fz_machine.specs.Off.{PutOff, looks_again, none_off, put_off}
-use Rattle.fz_machine.specs.Phases.{Lists, after, aside_in, asks, given, keeps, next_phase, off_in, subject}
+use Rattle.fz_machine.specs.Phases.{Scope, Lists, after, aside_in, asks, given, keeps, next_phase, off_in, subject}
 use Rattle.fz_machine.proofs.Begun.{HasBegun}
 use Rattle.fz_machine.proofs.Phasing.{kept_on}
 use Rattle.fz_machine.proofs.Rounds as rounds
@@ -58,9 +58,9 @@ module _ (E : Type 0) (word_of : ℕ → Option ℕ) (value : Map Object → ℕ
   IsAtEnd s h = (found : ℕ → Bool) × IsFound found × rounds.IsAtEnd E word_of value b (graph_of before.objects found) s h
 
   -- the next phase, whatever it lists, or the end
-  abbrev pub IsAfter : Option Phase → State → List Item → List Item → PutOff → Graph → Type 0
-  IsAfter None s kept aside off h = IsAtEnd s h
-  IsAfter (Some p) s kept aside off h = (items : List Item) → Lists p s (given p kept aside off) items → IsIn p s [] items (aside_in p kept aside) (off_in p off) h
+  abbrev pub IsAfter : Scope → Option Phase → State → List Item → List Item → PutOff → Graph → Type 0
+  IsAfter scope None s kept aside off h = IsAtEnd s h
+  IsAfter scope (Some p) s kept aside off h = (items : List Item) → Lists p scope s (given p kept aside off) items → IsIn p s [] items (aside_in p kept aside) (off_in p off) h
 
   -- where it asks, or at the end
   abbrev pub IsWhere : Option Phase → State → List Item → List Item → List Item → PutOff → Graph → Type 0
@@ -68,7 +68,7 @@ module _ (E : Type 0) (word_of : ℕ → Option ℕ) (value : Map Object → ℕ
   IsWhere (Some p) s kept left aside off h = IsIn p s kept left aside off h
 
   module _ (begin : HasBegun word_of b before) where
-    pub begin_found : (found : ℕ → Bool) → IsFound found → HasBegun word_of b (graph_of before.objects found)
+    abbrev pub begin_found : (found : ℕ → Bool) → IsFound found → HasBegun word_of b (graph_of before.objects found)
     begin_found found is = record {
       may = record {
         registered = begin.registered;
@@ -84,6 +84,11 @@ module _ (E : Type 0) (word_of : ℕ → Option ℕ) (value : Map Object → ℕ
       };
       flags = begin.flags;
       single = begin.single;
+      scope = begin.scope;
+      seen = record {
+        registered = λ object r here lt. is.settled.more object (begin.seen.registered object r here lt);
+        attached = λ number c here lt. is.settled.more c.object (begin.seen.attached number c here lt);
+      };
     }
 
     pub keep : (phase : Phase) (s : State) (kept left aside : List Item) (off : PutOff) (item : Item) (h new : Graph) → IsIn phase s kept (item ∷ left) aside off h → (answer : Bool)
@@ -105,28 +110,28 @@ module _ (E : Type 0) (word_of : ℕ → Option ℕ) (value : Map Object → ℕ
         (λ (q : IsFollowing phase s kept left aside was h). inr (q.0, q.1, rounds.told E word_of value b (graph_of before.objects q.0) (begin_found q.0 q.1) key phase s kept left aside was now h tells q.2)) p
 
     -- the marks are whole
-    cleanups_next : (s : State) (off : PutOff) (h : Graph) → looks_again off ≡ false → s ≡ b → LooksFirst (Values First) [] [] off h → (items : List Item) → AreCleanups Short s.cleanups items → IsIn ShortCleanups s [] items [] none_off h
+    cleanups_next : (s : State) (off : PutOff) (h : Graph) → looks_again off ≡ false → s ≡ b → LooksFirst (Values First) [] [] off h → (items : List Item) → AreCleanups begin.scope.cleanups Short s.cleanups items → IsIn ShortCleanups s [] items [] none_off h
     cleanups_next s off h over is q items are =
         let settled = is_settled E word_of value before.objects b.ephemerons before.marked off h over q in
         let found : IsFound h.marked = record { settled = settled; none = q.settling.none } in
         inr (h.marked, found, rounds.cleanups_begin E word_of value b (graph_of before.objects h.marked) (begin_found h.marked found) s items h is q.settling.objects_are refl are [] none_off)
 
-    turn_opening : (phase : Phase) (s : State) (kept aside : List Item) (off : PutOff) (h : Graph) → IsOpening phase s kept [] off h → IsAfter (next_phase phase (looks_again off)) s kept aside off h
+    turn_opening : (phase : Phase) (s : State) (kept aside : List Item) (off : PutOff) (h : Graph) → IsOpening phase s kept [] off h → IsAfter begin.scope (next_phase phase (looks_again off)) s kept aside off h
     turn_opening (Keys moment) s kept aside off h (at, is, q) = λ items same. inl (at, is, to_holders E word_of value before.objects b.ephemerons before.marked kept items off h q same)
     turn_opening (KeysAgain moment) s kept aside off h (at, is, q) = λ items same. inl (at, is, to_holders E word_of value before.objects b.ephemerons before.marked kept items off h q same)
     turn_opening (Holders moment) s kept aside off h (at, is, q) = λ items same. inl (at, is, to_values E word_of value before.objects b.ephemerons before.marked kept items off h q same)
     turn_opening (Values moment) s kept aside off h (at, is, q) = by (looks_again off) refl
       where
-        by : (more : Bool) → looks_again off ≡ more → IsAfter (next_phase (Values moment) more) s kept aside off h
-        by false over = subst (λ (m : Moment). IsAfter (next_phase (Values m) false) s kept aside off h) (sym at) (λ items are. cleanups_next s off h over is q items are)
+        by : (more : Bool) → looks_again off ≡ more → IsAfter begin.scope (next_phase (Values moment) more) s kept aside off h
+        by false over = subst (λ (m : Moment). IsAfter begin.scope (next_phase (Values m) false) s kept aside off h) (sym at) (λ items are. cleanups_next s off h over is q items are)
         by true again = λ items same. inl (at, is, to_keys E word_of value before.objects b.ephemerons before.marked items off h q same)
     turn_opening phase s kept aside off h (at, is, q) = absurd at
 
-    following_on : (found : ℕ → Bool) → IsFound found → (next : Option Phase) (s : State) (kept aside : List Item) (off : PutOff) (h : Graph) → rounds.IsAfter E word_of value b (graph_of before.objects found) next s kept aside off h → IsAfter next s kept aside off h
+    following_on : (found : ℕ → Bool) → IsFound found → (next : Option Phase) (s : State) (kept aside : List Item) (off : PutOff) (h : Graph) → rounds.IsAfter E word_of value b (graph_of before.objects found) begin.scope next s kept aside off h → IsAfter begin.scope next s kept aside off h
     following_on found is None s kept aside off h end = (found, is, end)
     following_on found is (Some p) s kept aside off h on = λ items lists. inr (found, is, on items lists)
 
-    pub turn : (phase : Phase) (s : State) (kept aside : List Item) (off : PutOff) (h : Graph) → IsIn phase s kept [] aside off h → IsAfter (next_phase phase (looks_again off)) s kept aside off h
+    pub turn : (phase : Phase) (s : State) (kept aside : List Item) (off : PutOff) (h : Graph) → IsIn phase s kept [] aside off h → IsAfter begin.scope (next_phase phase (looks_again off)) s kept aside off h
     turn phase s kept aside off h p =
         ⊎_elim (turn_opening phase s kept aside off h)
         (λ (q : IsFollowing phase s kept [] aside off h). following_on q.0 q.1 (next_phase phase (looks_again off)) s kept aside off h (rounds.turn E word_of value b (graph_of before.objects q.0) (begin_found q.0 q.1) phase s kept aside off h q.2)) p

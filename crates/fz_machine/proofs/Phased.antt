@@ -24,7 +24,7 @@ use Rattle.fz_machine.specs.declared.phase.Phase.TheVariants as phase
 use Rattle.fz_machine.specs.Graph.{Graph}
 use Rattle.fz_machine.specs.Items.{place_of}
 use Rattle.fz_machine.specs.Off.{PutOff}
-use Rattle.fz_machine.specs.Phases.{Lists, given, aside_in, off_in}
+use Rattle.fz_machine.specs.Phases.{Scope, Lists, given, aside_in, off_in}
 use Rattle.fz_machine.proofs.Among.{Each, OneOf, AreInOrder}
 use Rattle.fz_machine.proofs.Chosen.{AreChosen}
 use Rattle.fz_machine.proofs.Cleaning.{Cleaning}
@@ -245,6 +245,6 @@ module _ (E : Type 0) (word_of : ℕ → Option ℕ) (value : Map Object → ℕ
     pub marks_are : h.marked ≡ chosen.kept
 
   -- the next phase, whatever it lists, or the end
-  abbrev pub IsAfter : Option Phase → State → List Item → List Item → PutOff → Graph → Type 0
-  IsAfter None s kept aside off h = IsAtEnd s h
-  IsAfter (Some p) s kept aside off h = (items : List Item) → Lists p s (given p kept aside off) items → IsIn p s [] items (aside_in p kept aside) (off_in p off) h
+  abbrev pub IsAfter : Scope → Option Phase → State → List Item → List Item → PutOff → Graph → Type 0
+  IsAfter scope None s kept aside off h = IsAtEnd s h
+  IsAfter scope (Some p) s kept aside off h = (items : List Item) → Lists p scope s (given p kept aside off) items → IsIn p s [] items (aside_in p kept aside) (off_in p off) h

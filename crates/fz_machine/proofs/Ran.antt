@@ -1,5 +1,5 @@
 -- A run keeps what holds in its phases, and ends with the model's pass.
-use Rattle.std.proofs.Common.{ℕ, ◌≡◌, ◌∷◌, ◌∙◌, [], Bool, false, cond, List, Option, Some, None, refl, sym, ap, subst, is_some, length, IsTrue}
+use Rattle.std.proofs.Common.{ℕ, ◌≡◌, ◌∷◌, ◌∙◌, [], ◌<◌, Bool, true, false, arith, cond, List, Option, Some, None, refl, sym, ap, subst, is_some, length, IsTrue}
 use Rattle.std.specs.FinMap.{retain_keys}
 use Rattle.std.specs.FinSet.{contains}
 use Rattle.fz_model.specs.State.{Map, Object}
@@ -23,13 +23,13 @@ use Rattle.fz_machine.specs.declared.phase.Phase.{Phase}
 use Rattle.fz_machine.specs.declared.phase.Phase.TheVariants.{Keys}
 use Rattle.fz_machine.specs.declared.question.Ask.{Ask}
 use Rattle.fz_machine.specs.Going.{going}
-use Rattle.fz_machine.specs.Graph.{Graph, IsHonest, MayBegin, graph_of}
+use Rattle.fz_machine.specs.Graph.{AreOldMarked, Graph, IsHonest, MayBegin, graph_of}
 use Rattle.fz_machine.specs.Items.{AreEphemerons}
 use Rattle.fz_machine.specs.Machines as machines
-use Rattle.fz_machine.specs.Machines.{IsBegun, Machine, TellsIn, Works}
+use Rattle.fz_machine.specs.Machines.{IsBegunFrom, Machine, TellsIn, Works}
 use Rattle.fz_machine.specs.Off.{PutOff, looks_again, put_off}
-use Rattle.fz_machine.specs.Phases.{after, aside_in, asks, keeps, next_phase, subject}
-use Rattle.fz_machine.specs.Runs.{AreHonest, Begun, Goes, MakesPass, MakesPlainPass, Meanwhile, Runs, RunsPass, RunsPlainPass, Told}
+use Rattle.fz_machine.specs.Phases.{Scope, after, aside_in, asks, keeps, next_phase, subject}
+use Rattle.fz_machine.specs.Runs.{AreHonest, Begun, Goes, MakesPass, MakesPlainPass, Meanwhile, Runs, RunsPass, RunsPlainPass, RunsYoungPass, RunsYoungPlainPass, Told}
 use Rattle.fz_machine.specs.Steps.{Asks, Begins, Ends, Going, GoesOn, Turns, skip, skipped, steps}
 use Rattle.fz_machine.proofs.Begun.{HasBegun}
 use Rattle.fz_machine.proofs.Cleaning.{after_due}
@@ -69,25 +69,25 @@ module _ (E : Type 0) (word_of : ℕ → Option ℕ) (value : Map Object → ℕ
       by (Some ask) some rest = p
 
   -- no item is left
-  none_left : (phase : Phase) (g : Going) (h : Graph) → g.left ≡ [] → IsOn phase g h → IsAfter E word_of value b before (next_phase phase (looks_again g.off)) g.finalizers g.kept g.aside g.off h
+  none_left : (phase : Phase) (g : Going) (h : Graph) → g.left ≡ [] → IsOn phase g h → IsAfter E word_of value b before begin.scope (next_phase phase (looks_again g.off)) g.finalizers g.kept g.aside g.off h
   none_left phase g h none p =
       turn E word_of value b before begin phase g.finalizers g.kept g.aside g.off h (subst (λ (xs : List Item). IsIn E word_of value b before phase g.finalizers g.kept xs g.aside g.off h) none p)
 
-  begins_on : (phase : Phase) (g k : Going) (h : Graph) → IsAfter E word_of value b before (Some phase) g.finalizers g.kept g.aside g.off h → Begins phase g k → IsOn phase k h
+  begins_on : (phase : Phase) (g k : Going) (h : Graph) → IsAfter E word_of value b before begin.scope (Some phase) g.finalizers g.kept g.aside g.off h → Begins begin.scope phase g k → IsOn phase k h
   begins_on phase g k h after_it begins =
       subst (λ (s : State). IsIn E word_of value b before phase s k.kept k.left k.aside k.off h) (sym begins.same)
       (subst (λ (xs : List Item). IsIn E word_of value b before phase g.finalizers xs k.left k.aside k.off h) (sym begins.none)
       (subst (λ (xs : List Item). IsIn E word_of value b before phase g.finalizers [] k.left xs k.off h) (sym begins.aside)
       (subst (λ (off : PutOff). IsIn E word_of value b before phase g.finalizers [] k.left (aside_in phase g.kept g.aside) off h) (sym begins.off) (after_it k.left begins.lists))))
 
-  goes_keep : (phase : Phase) (g : Going) (last : Option Phase) (k : Going) (h : Graph) → GoesOn phase g last k → IsOn phase g h → IsWhere E word_of value b before last k.finalizers k.kept k.left k.aside k.off h
+  goes_keep : (phase : Phase) (g : Going) (last : Option Phase) (k : Going) (h : Graph) → GoesOn begin.scope phase g last k → IsOn phase g h → IsWhere E word_of value b before last k.finalizers k.kept k.left k.aside k.off h
   goes_keep phase g last k h (Asks item left some) p = skips_keep phase g.left g.finalizers g.kept g.aside g.off h p
   goes_keep phase g last k h (Turns {next = next} {h = m} none turns begins rest) p =
       goes_keep next m last k h rest
       (begins_on next (skip phase g) m h
-      (subst (λ o. IsAfter E word_of value b before o (skip phase g).finalizers (skip phase g).kept (skip phase g).aside (skip phase g).off h) turns (none_left phase (skip phase g) h none (skips_keep phase g.left g.finalizers g.kept g.aside g.off h p))) begins)
+      (subst (λ o. IsAfter E word_of value b before begin.scope o (skip phase g).finalizers (skip phase g).kept (skip phase g).aside (skip phase g).off h) turns (none_left phase (skip phase g) h none (skips_keep phase g.left g.finalizers g.kept g.aside g.off h p))) begins)
   goes_keep phase g last k h (Ends none turns) p =
-      subst (λ o. IsAfter E word_of value b before o (skip phase g).finalizers (skip phase g).kept (skip phase g).aside (skip phase g).off h) turns (none_left phase (skip phase g) h none (skips_keep phase g.left g.finalizers g.kept g.aside g.off h p))
+      subst (λ o. IsAfter E word_of value b before begin.scope o (skip phase g).finalizers (skip phase g).kept (skip phase g).aside (skip phase g).off h) turns (none_left phase (skip phase g) h none (skips_keep phase g.left g.finalizers g.kept g.aside g.off h p))
 
   -- the host tells a key
   told_on : (key : ℕ) (phase : Option Phase) (s : State) (kept left aside : List Item) (was now : PutOff) (h : Graph) → TellsIn phase key was now → IsWhere E word_of value b before phase s kept left aside was h → IsWhere E word_of value b before phase s kept left aside now h
@@ -101,22 +101,30 @@ module _ (E : Type 0) (word_of : ℕ → Option ℕ) (value : Map Object → ℕ
   abbrev IsAt : Machine → Graph → Type 0
   IsAt m h = IsWhere E word_of value b before m.phase (passed m) m.walk.kept m.walk.left m.walk.aside m.walk.off h
 
-  ran : (begun m : Machine) (h : Graph) → IsAt begun before → Runs E word_of value begun before m h → IsAt m h
-  ran begun m h p Begun = p
-  ran begun m h p (Goes {m = old} {g = g} answers goes runs honest) =
-      let was = subst (λ o. IsWhere E word_of value b before o (passed old) old.walk.kept old.walk.left old.walk.aside old.walk.off g) goes.was (ran begun old g p runs) in
+  -- it looks at the same registrations and cleanups throughout
+  scope_stays : (begun m : Machine) (h : Graph) → Runs E word_of value begun before m h → machines.scope m ≡ machines.scope begun
+  scope_stays begun m h Begun = refl
+  scope_stays begun m h (Goes {m = old} {g = g} answers goes runs honest) = (λ i. record { registrations = cond (goes.noted i) 0 (goes.from i); cleanups = goes.from i }) ∙ scope_stays begun old g runs
+  scope_stays begun m h (Meanwhile {m = old} worked runs) = ap machines.scope worked.keeps ∙ scope_stays begun old h runs
+  scope_stays begun m h (Told {m = old} key tells runs) = ap machines.scope tells.same ∙ scope_stays begun old h runs
+
+  ran : (begun m : Machine) (h : Graph) → machines.scope begun ≡ begin.scope → IsAt begun before → Runs E word_of value begun before m h → IsAt m h
+  ran begun m h same p Begun = p
+  ran begun m h same p (Goes {m = old} {g = g} answers goes runs honest) =
+      let was = subst (λ o. IsWhere E word_of value b before o (passed old) old.walk.kept old.walk.left old.walk.aside old.walk.off g) goes.was (ran begun old g same p runs) in
       let from = going_apart b.taken b.held (going old.finalizers old.walk) in
       let to = going_apart b.taken b.held (going m.finalizers m.walk) in
-      let on : GoesOn goes.phase (steps goes.phase answers from) m.phase to =
-      subst (λ (k : Going). GoesOn goes.phase k m.phase to) (sym (steps_apart b.taken b.held goes.phase answers (going old.finalizers old.walk)))
-      (goes_apart b.taken b.held goes.phase (steps goes.phase answers (going old.finalizers old.walk)) m.phase (going m.finalizers m.walk) goes.goes) in
+      let on : GoesOn begin.scope goes.phase (steps goes.phase answers from) m.phase to =
+      subst (λ (sc : Scope). GoesOn sc goes.phase (steps goes.phase answers from) m.phase to) (scope_stays begun old g runs ∙ same)
+      (subst (λ (k : Going). GoesOn (machines.scope old) goes.phase k m.phase to) (sym (steps_apart b.taken b.held goes.phase answers (going old.finalizers old.walk)))
+      (goes_apart b.taken b.held goes.phase (steps goes.phase answers (going old.finalizers old.walk)) m.phase (going m.finalizers m.walk) goes.goes)) in
       goes_keep goes.phase (steps goes.phase answers from) m.phase to h on (steps_keep goes.phase answers (passed old) old.walk.kept old.walk.left old.walk.aside old.walk.off g h was honest)
-  ran begun m h p (Meanwhile {m = old} worked runs) =
+  ran begun m h same p (Meanwhile {m = old} worked runs) =
       subst (λ (k : Machine). IsWhere E word_of value b before k.phase (passed m) k.walk.kept k.walk.left k.walk.aside k.walk.off h) (sym worked.keeps)
       (subst (λ (s : State). IsWhere E word_of value b before old.phase s old.walk.kept old.walk.left old.walk.aside old.walk.off h)
-      (sym (work_apart b.taken b.held old.finalizers.state m.finalizers.state worked.event worked.work worked.follows)) (ran begun old h p runs))
-  ran begun m h p (Told {m = old} key tells runs) =
-      subst (λ (k : Machine). IsAt k h) (sym tells.same) (told_on key old.phase (passed old) old.walk.kept old.walk.left old.walk.aside old.walk.off m.walk.off h tells.off (ran begun old h p runs))
+      (sym (work_apart b.taken b.held old.finalizers.state m.finalizers.state worked.event worked.work worked.follows)) (ran begun old h same p runs))
+  ran begun m h same p (Told {m = old} key tells runs) =
+      subst (λ (k : Machine). IsAt k h) (sym tells.same) (told_on key old.phase (passed old) old.walk.kept old.walk.left old.walk.aside old.walk.off m.walk.off h tells.off (ran begun old h same p runs))
 
   -- what is taken and finished might as well be taken and finished at the end
   works : (begun m : Machine) (h : Graph) → WorksAfter b.taken b.held begun.finalizers.state → Runs E word_of value begun before m h → WorksAfter b.taken b.held m.finalizers.state
@@ -129,15 +137,24 @@ module _ (E : Type 0) (word_of : ℕ → Option ℕ) (value : Map Object → ℕ
 
 -- ---- from the begin to the end
 
-module _ (E : Type 0) (word_of : ℕ → Option ℕ) (value : Map Object → ℕ → Option ℕ) (old begun new : Machine) (past : Past) (before after_it : Graph) (reached : IsReached old.finalizers.state past) (is : IsBegun old begun) (may : MayBegin word_of old.finalizers.state before) (runs : Runs E word_of value begun before new after_it) where
+module _ (E : Type 0) (word_of : ℕ → Option ℕ) (value : Map Object → ℕ → Option ℕ) (from : ℕ) (old begun new : Machine) (past : Past) (before after_it : Graph) (reached : IsReached old.finalizers.state past) (is : IsBegunFrom from old begun) (may : MayBegin word_of old.finalizers.state before) (seen : AreOldMarked from old.finalizers.state before) (runs : Runs E word_of value begun before new after_it) where
   abbrev b : State
   b = record old.finalizers.state { passes = next_pass old.finalizers.passes }
 
-  has_begun : HasBegun word_of b before
+  no_later : (number : ℕ) (noted : Bool) → number < cond noted 0 begun.from → number < from
+  no_later number true lt = absurd (omega (arith, lt))
+  no_later number false lt = let same = is.from in omega (arith, lt, same)
+
+  abbrev has_begun : HasBegun word_of b before
   has_begun = record {
     may = record { registered = may.registered; short = may.short; long = may.long; short_keys = may.short_keys; long_keys = may.long_keys; zero = may.zero; closed = may.closed; births = may.births; starts = may.starts; apart = may.apart };
     flags = (promised old.finalizers.state past reached).flags;
     single = single old.finalizers.state past reached;
+    scope = machines.scope begun;
+    seen = record {
+      registered = λ object r here lt. seen.registered object r here (no_later r.number begun.noted lt);
+      attached = λ number c here lt. seen.attached number c here (let same = is.from in omega (arith, lt, same));
+    };
   }
 
   starts : IsIn E word_of value b before (Keys First) begun.finalizers.state begun.walk.kept begun.walk.left begun.walk.aside begun.walk.off before
@@ -153,7 +170,7 @@ module _ (E : Type 0) (word_of : ℕ → Option ℕ) (value : Map Object → ℕ
   as_b = ap (apart b.taken b.held) is.finalizers ∙ sym is.finalizers
 
   is_where : IsWhere E word_of value b before new.phase (apart b.taken b.held new.finalizers.state) new.walk.kept new.walk.left new.walk.aside new.walk.off after_it
-  is_where = ran E word_of value b before has_begun begun new after_it
+  is_where = ran E word_of value b before has_begun begun new after_it refl
       (subst (λ (s : State). IsWhere E word_of value b before begun.phase s begun.walk.kept begun.walk.left begun.walk.aside begun.walk.off before) (sym as_b)
       (subst (λ o. IsWhere E word_of value b before o begun.finalizers.state begun.walk.kept begun.walk.left begun.walk.aside begun.walk.off before) (sym is.phase) starts)) runs
 
@@ -164,18 +181,18 @@ module _ (E : Type 0) (word_of : ℕ → Option ℕ) (value : Map Object → ℕ
   pub where_it_is : (s : State) × (h : HasBegun word_of s before) × ((phase : Phase) → new.phase ≡ Some phase → IsIn E word_of value s before phase (apart s.taken s.held new.finalizers.state) new.walk.kept new.walk.left new.walk.aside new.walk.off after_it)
   where_it_is = (b, has_begun, λ phase at. subst (λ o. IsWhere E word_of value b before o (apart b.taken b.held new.finalizers.state) new.walk.kept new.walk.left new.walk.aside new.walk.off after_it) at is_where)
 
-module _ (E : Type 0) (word_of : ℕ → Option ℕ) (value : Map Object → ℕ → Option ℕ) (old begun new : Machine) (past : Past) (before after_it : Graph) (reached : IsReached old.finalizers.state past) (is : IsBegun old begun) (may : MayBegin word_of old.finalizers.state before) (runs : Runs E word_of value begun before new after_it) (ends : new.phase ≡ None) where
+module _ (E : Type 0) (word_of : ℕ → Option ℕ) (value : Map Object → ℕ → Option ℕ) (from : ℕ) (old begun new : Machine) (past : Past) (before after_it : Graph) (reached : IsReached old.finalizers.state past) (is : IsBegunFrom from old begun) (may : MayBegin word_of old.finalizers.state before) (seen : AreOldMarked from old.finalizers.state before) (runs : Runs E word_of value begun before new after_it) (ends : new.phase ≡ None) where
   abbrev c : State
-  c = b E word_of value old begun new past before after_it reached is may runs
+  c = b E word_of value from old begun new past before after_it reached is may seen runs
 
   begins_so : HasBegun word_of c before
-  begins_so = has_begun E word_of value old begun new past before after_it reached is may runs
+  begins_so = has_begun E word_of value from old begun new past before after_it reached is may seen runs
 
   abbrev end : State
   end = apart c.taken c.held new.finalizers.state
 
   at_end : IsAtEnd E word_of value c before end after_it
-  at_end = subst (λ o. IsWhere E word_of value c before o end new.walk.kept new.walk.left new.walk.aside new.walk.off after_it) ends (is_where E word_of value old begun new past before after_it reached is may runs)
+  at_end = subst (λ o. IsWhere E word_of value c before o end new.walk.kept new.walk.left new.walk.aside new.walk.off after_it) ends (is_where E word_of value from old begun new past before after_it reached is may seen runs)
 
   -- what is found
   abbrev found : ℕ → Bool
@@ -229,7 +246,7 @@ module _ (E : Type 0) (word_of : ℕ → Option ℕ) (value : Map Object → ℕ
   }
 
   works_so : Works end new.finalizers.state
-  works_so = works_on E word_of value old begun new past before after_it reached is may runs
+  works_so = works_on E word_of value from old begun new past before after_it reached is may seen runs
 
   marks_so : (a : ℕ) → IsTrue (before.marked a) → IsTrue (after_it.marked a)
   marks_so a on = turning.still_marked E word_of value mid found_graph begins_behind end after_it ending a (at_end.1.settled.more a on)
@@ -263,7 +280,7 @@ module _ (E : Type 0) (word_of : ℕ → Option ℕ) (value : Map Object → ℕ
     makes_plain_pass = record { passed = end; passes = passes_plain; works = works_so; marks = marks_so; closed = closed_so }
 
 pub runs_pass : (E : Type 0) → RunsPass E
-runs_pass E word_of value old begun new past before after_it reached is may runs ends = makes_pass E word_of value old begun new past before after_it reached is may runs ends
+runs_pass E word_of value from old begun new past before after_it reached is may seen runs ends = makes_pass E word_of value from old begun new past before after_it reached is may seen runs ends
 
 pub runs_plain_pass : (E : Type 0) → RunsPlainPass E
-runs_plain_pass E word_of value old begun new past before after_it reached none is may runs ends = makes_plain_pass E word_of value old begun new past before after_it reached is may runs ends none
+runs_plain_pass E word_of value old begun new past before after_it reached none is may runs ends = makes_plain_pass E word_of value from old begun new past before after_it reached is may seen runs ends none

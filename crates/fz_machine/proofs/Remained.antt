@@ -142,7 +142,7 @@ module _ (all : ℕ) where
   heard begun m n start (Keyed {m = old} key tells hears) = subst (λ (k : Machine). AreFew n (regions_left k)) (sym tells.same) (heard begun old n start hears)
 
 pub region_questions_end : RegionQuestionsEnd
-region_questions_end old begun m n is hears =
+region_questions_end from old begun m n is hears =
     let first : regions_left begun ≡ old.tabled = ap (λ o. to_process o begun.tabled begun.remaining) is.phase ∙ is.tabled in
     few n (regions_left m) (heard old.tabled begun m n (begin (regions_left begun) first) hears)
   where

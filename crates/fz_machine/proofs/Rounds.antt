@@ -5,6 +5,7 @@ use Rattle.fz_model.specs.State.{Map, Object}
 use Rattle.fz_finalizers.specs.declared.cleanups.Attached.{Attached}
 use Rattle.fz_finalizers.specs.Cleanups.{AreDue, is_due}
 use Rattle.fz_finalizers.specs.States.{State}
+use Rattle.fz_finalizers.proofs.Cleaned.{without_back}
 use Rattle.fz_machine.specs.declared.item.Item.{Item}
 use Rattle.fz_machine.specs.declared.phase.Phase.{Phase}
 use Rattle.fz_machine.specs.declared.phase.Phase.TheVariants.{ShortCleanups, ShortTargets}
@@ -12,8 +13,8 @@ use Rattle.fz_machine.specs.Graph.{Graph, IsHonest}
 use Rattle.fz_machine.specs.Items.{AreCleanups, AreLinks}
 use Rattle.fz_machine.specs.Machines.{TellsIn}
 use Rattle.fz_machine.specs.Off.{PutOff, looks_again, put_off}
-use Rattle.fz_machine.specs.Phases.{Lists, after, aside_in, asks, given, keeps, next_phase, off_in, subject}
-use Rattle.fz_machine.proofs.Begun.{HasBegun}
+use Rattle.fz_machine.specs.Phases.{Scope, Lists, after, aside_in, asks, given, keeps, next_phase, off_in, subject}
+use Rattle.fz_machine.proofs.Begun.{HasBegun, young_attached}
 use Rattle.fz_machine.proofs.Cleaning.{Cleaning, after_due, cleaning_all, cleaning_begins, cleaning_on}
 use Rattle.fz_machine.proofs.DeadWords.{IsLink, IsLinkAt}
 use Rattle.fz_machine.proofs.Entered.{links_all, links_each}
@@ -42,16 +43,18 @@ module _ (E : Type 0) (word_of : ℕ → Option ℕ) (value : Map Object → ℕ
   IsAtEnd s h = (due : List (ℕ × Attached)) × AreShort due × phased.IsAtEnd E word_of value (after_due b due) before s h
 
   -- the next phase, whatever it lists, or the end
-  abbrev pub IsAfter : Option Phase → State → List Item → List Item → PutOff → Graph → Type 0
-  IsAfter None s kept aside off h = IsAtEnd s h
-  IsAfter (Some p) s kept aside off h = (items : List Item) → Lists p s (given p kept aside off) items → IsIn p s [] items (aside_in p kept aside) (off_in p off) h
+  abbrev pub IsAfter : Scope → Option Phase → State → List Item → List Item → PutOff → Graph → Type 0
+  IsAfter scope None s kept aside off h = IsAtEnd s h
+  IsAfter scope (Some p) s kept aside off h = (items : List Item) → Lists p scope s (given p kept aside off) items → IsIn p s [] items (aside_in p kept aside) (off_in p off) h
 
   module _ (begin : HasBegun word_of b before) where
-    pub begin_behind : (due : List (ℕ × Attached)) → HasBegun word_of (after_due b due) before
+    abbrev pub begin_behind : (due : List (ℕ × Attached)) → HasBegun word_of (after_due b due) before
     begin_behind due = record {
       may = record { registered = begin.registered; short = begin.short; long = begin.long; short_keys = begin.short_keys; long_keys = begin.long_keys; zero = begin.zero; closed = begin.closed; births = begin.births; starts = begin.starts; apart = begin.apart };
       flags = begin.flags;
       single = begin.single;
+      scope = begin.scope;
+      seen = record { registered = begin.seen.registered; attached = λ number c here lt. begin.seen.attached number c (without_back b.cleanups due number c here).0 lt };
     }
 
     pub keep : (phase : Phase) (s : State) (kept left aside : List Item) (off : PutOff) (item : Item) (h new : Graph) → IsIn phase s kept (item ∷ left) aside off h → (answer : Bool)
@@ -85,16 +88,17 @@ module _ (E : Type 0) (word_of : ℕ → Option ℕ) (value : Map Object → ℕ
               (cleans.2 ∙ as_begun n) c.objects_are c.marks_are (links_each b.short items listed) (λ object word here off. links_all b.short items listed object word here),
         )
 
-    behind_on : (due : List (ℕ × Attached)) → AreShort due → (next : Option Phase) (s : State) (kept aside : List Item) (off : PutOff) (h : Graph) → phased.IsAfter E word_of value (after_due b due) before next s kept aside off h → IsAfter next s kept aside off h
+    behind_on : (due : List (ℕ × Attached)) → AreShort due → (next : Option Phase) (s : State) (kept aside : List Item) (off : PutOff) (h : Graph) → phased.IsAfter E word_of value (after_due b due) before begin.scope next s kept aside off h → IsAfter begin.scope next s kept aside off h
     behind_on due are None s kept aside off h end = (due, are, end)
     behind_on due are (Some p) s kept aside off h on = λ items lists. inr (due, are, on items lists)
 
-    pub turn : (phase : Phase) (s : State) (kept aside : List Item) (off : PutOff) (h : Graph) → IsIn phase s kept [] aside off h → IsAfter (next_phase phase (looks_again off)) s kept aside off h
+    pub turn : (phase : Phase) (s : State) (kept aside : List Item) (off : PutOff) (h : Graph) → IsIn phase s kept [] aside off h → IsAfter begin.scope (next_phase phase (looks_again off)) s kept aside off h
     turn phase s kept aside off h p =
-        ⊎_elim (λ (q : IsFirst phase s [] h). subst (λ (o : Phase). IsAfter (next_phase o (looks_again off)) s kept aside off h) (sym q.0) (λ items are. links_begin s h q.1 items are aside off))
+        ⊎_elim (λ (q : IsFirst phase s [] h). subst (λ (o : Phase). IsAfter begin.scope (next_phase o (looks_again off)) s kept aside off h) (sym q.0) (λ items are. links_begin s h q.1 items are aside off))
         (λ (q : IsBehind phase s kept [] aside off h). behind_on q.0 q.1 (next_phase phase (looks_again off)) s kept aside off h (turning.turn E word_of value (after_due b q.0) before (begin_behind q.0) phase s kept aside off h q.2)) p
 
     -- the round begins
-    pub cleanups_begin : (s : State) (items : List Item) (h : Graph) → s ≡ b → h.objects ≡ before.objects → h.marked ≡ before.marked → AreCleanups Short s.cleanups items → (aside : List Item) (off : PutOff) → IsIn ShortCleanups s [] items aside off h
+    pub cleanups_begin : (s : State) (items : List Item) (h : Graph) → s ≡ b → h.objects ≡ before.objects → h.marked ≡ before.marked → AreCleanups begin.scope.cleanups Short s.cleanups items → (aside : List Item) (off : PutOff) → IsIn ShortCleanups s [] items aside off h
     cleanups_begin s items h state objects_are marks_are are aside off =
-        inl (refl, cleaning_begins E word_of value Short b before.objects before.marked s items h state objects_are marks_are (subst (λ (t : State). AreCleanups Short t.cleanups items) state are))
+        inl (refl, cleaning_begins E word_of value Short b before.objects before.marked begin.scope.cleanups s items h (young_attached E word_of value b before begin before.marked (λ a on. on)) state objects_are marks_are
+        (subst (λ (t : State). AreCleanups begin.scope.cleanups Short t.cleanups items) state are))

@@ -29,7 +29,7 @@ use Rattle.fz_machine.specs.Items.{AreCleanups, AreEphemerons, AreInTurn, AreLin
 use Rattle.fz_machine.specs.Off.{PutOff, looked_at, looking, looks_again, none_off}
 use Rattle.fz_machine.specs.Phases.{next_phase}
 use Rattle.fz_machine.proofs.Among.{AreInOrder, Each, OneOf, each_as, each_permuted, one_as, one_permuted, order_from}
-use Rattle.fz_machine.proofs.Begun.{HasBegun, closed, found_led, led_picked, long_key_targets, long_targets, normal, not_before, registered, short_key_targets, still_nowhere, was_there}
+use Rattle.fz_machine.proofs.Begun.{HasBegun, closed, found_led, led_picked, long_key_targets, long_targets, normal, not_before, registered, short_key_targets, still_nowhere, was_there, young_attached, young_registered}
 use Rattle.fz_machine.proofs.Cleaning.{cleaning_all, cleaning_begins}
 use Rattle.fz_machine.proofs.Chosen.{choosing_begins, chosen_all}
 use Rattle.fz_machine.proofs.DeadWords.{IsLink, IsLinkAt}
@@ -86,11 +86,12 @@ module _ (E : Type 0) (word_of : ℕ → Option ℕ) (value : Map Object → ℕ
       sifts_begin E word_of value _ begun before.marked (IsLink word_of begun b.ephemerons.short before.marked) (IsLinkAt word_of begun b.ephemerons.short before.marked) s items h all.0 all.1 all.2
       (links_each b.ephemerons.short items listed) (λ object word here off. links_all b.ephemerons.short items listed object word here)
 
-  to_objects : (s : State) (aside : List Item) (off : PutOff) (h : Graph) → Clears E word_of value (λ keys. with_links shorts keys) begun b.ephemerons.short before.marked s [] h → (items : List Item) → AreObjects s.registrations s.late items → At Objects s [] items aside off h
+  to_objects : (s : State) (aside : List Item) (off : PutOff) (h : Graph) → Clears E word_of value (λ keys. with_links shorts keys) begun b.ephemerons.short before.marked s [] h → (items : List Item) → AreObjects begin.scope.registrations s.registrations s.late items → At Objects s [] items aside off h
   to_objects s aside off h p items are =
       let all = clears_all E word_of value (λ keys. with_links shorts keys) begun b.ephemerons.short before.marked (short_key_targets E word_of value b before begin) begin.apart s h p in
-      let listed : AreObjects b.registrations b.late items = subst (λ (t : State). AreObjects t.registrations t.late items) p.state are in
-      sifts_begin E word_of value _ clearly before.marked Either EitherAt s items h all.0 all.1 all.2 (objects_each b.registrations b.late items listed) (λ object word at off. objects_all b.registrations b.late items listed object word at)
+      let listed : AreObjects begin.scope.registrations b.registrations b.late items = subst (λ (t : State). AreObjects begin.scope.registrations t.registrations t.late items) p.state are in
+      sifts_begin E word_of value _ clearly before.marked Either EitherAt s items h all.0 all.1 all.2 (objects_each b.registrations b.late begin.scope.registrations items listed)
+      (λ object word at off. objects_all b.registrations b.late begin.scope.registrations items listed object word at (λ r here. young_registered E word_of value b before begin object r here off))
 
   to_children : (s : State) (kept : List Item) (h : Graph) → Sifts E word_of value (with_links shorts keys) clearly before.marked Either EitherAt s kept [] h → (items : List Item) → items ≡ kept → LeadsOn E word_of value b before s [] items h
   to_children s kept h p items is =
@@ -257,7 +258,7 @@ module _ (E : Type 0) (word_of : ℕ → Option ℕ) (value : Map Object → ℕ
 
   -- and once they are
   behind_on : (moment : Moment) (s : State) (kept aside : List Item) (off : PutOff) (h : Graph) → looks_again off ≡ false → IsSettling E word_of value b before moment (Values moment) s kept [] aside off h
-      → IsAfter E word_of value b before (next_phase (Values moment) false) s kept aside off h
+      → IsAfter E word_of value b before begin.scope (next_phase (Values moment) false) s kept aside off h
   behind_on moments.First s kept aside off h over p = absurd p
   behind_on moments.Led s kept aside off h over (w, p) = λ items is. to_again s aside off [] none_off h over w p items is
   behind_on moments.Picked s kept aside off h over (w, p) = λ items is. to_late_again s aside off [] none_off h over w p items is
@@ -265,13 +266,13 @@ module _ (E : Type 0) (word_of : ℕ → Option ℕ) (value : Map Object → ℕ
 
   -- ---- all phases
 
-  pub turn : (phase : Phase) (s : State) (kept aside : List Item) (off : PutOff) (h : Graph) → At phase s kept [] aside off h → IsAfter E word_of value b before (next_phase phase (looks_again off)) s kept aside off h
+  pub turn : (phase : Phase) (s : State) (kept aside : List Item) (off : PutOff) (h : Graph) → At phase s kept [] aside off h → IsAfter E word_of value b before begin.scope (next_phase phase (looks_again off)) s kept aside off h
   turn (Keys moment) s kept aside off h p = λ items is. on_holders moment s kept aside off h p items is
   turn (KeysAgain moment) s kept aside off h p = λ items is. again_holders moment s kept aside off h p items is
   turn (Holders moment) s kept aside off h p = λ items is. on_values moment s kept aside off h p items is
   turn (Values moment) s kept aside off h p = by (looks_again off) refl
     where
-      by : (more : Bool) → looks_again off ≡ more → IsAfter E word_of value b before (next_phase (Values moment) more) s kept aside off h
+      by : (more : Bool) → looks_again off ≡ more → IsAfter E word_of value b before begin.scope (next_phase (Values moment) more) s kept aside off h
       by false over = behind_on moment s kept aside off h over p
       by true again = λ items is. on_keys moment s kept aside off h p items is
   turn ShortCleanups s kept aside off h p = absurd p
@@ -324,7 +325,12 @@ module _ (E : Type 0) (word_of : ℕ → Option ℕ) (value : Map Object → ℕ
   turn LongKeyHolders s kept aside off h (c, p) = λ items are.
       let all = holds_all E word_of value (λ others. after_picks E word_of value b before c (short_held E word_of value b before c) (long_held E word_of value b before c) (keys_held E word_of value b before c) others) (last E word_of value b before c)
       (long_keys_left E word_of value b before c) c.kept s h p in
-      (c, cleaning_begins E word_of value Long (passed E word_of value b before c) (last E word_of value b before c) c.kept s items h all.0 all.1 all.2 (subst (λ (t : State). AreCleanups Long t.cleanups items) all.0 are))
+      (
+        c,
+        cleaning_begins E word_of value Long (passed E word_of value b before c) (last E word_of value b before c) c.kept begin.scope.cleanups s items h
+            (young_attached E word_of value b before begin c.kept (λ a on. c.settled.more a (c.marks.least a (inl (led_picked E word_of value b before begin c.first a (found_led E word_of value b before begin c.first.leading a on)))))) all.0 all.1 all.2
+            (subst (λ (t : State). AreCleanups begin.scope.cleanups Long t.cleanups items) all.0 are),
+      )
   turn LongCleanups s kept aside off h (c, p) =
       record { chosen = c; cleaned = cleaning_all E word_of value Long (passed E word_of value b before c) (last E word_of value b before c) c.kept s h p; objects_are = p.objects_are; marks_are = p.marks_are }
 

@@ -10,7 +10,7 @@ use Rattle.fz_machine.specs.declared.question.Question.{Question}
 use Rattle.fz_machine.specs.declared.question.TheConstants.{BATCH}
 use Rattle.fz_machine.specs.Going.{ephemerons_in}
 use Rattle.fz_machine.specs.Regions.{items_in}
-use Rattle.fz_machine.specs.Machines.{Machine, AsksRegions, IsBegun, GoesTo, IsAbandoned, IsTold, IsWorked, PassesOver}
+use Rattle.fz_machine.specs.Machines.{Machine, AsksRegions, IsBegunFrom, GoesTo, IsAbandoned, IsTold, IsWorked, PassesOver}
 
 -- how many items the last question covers: those that it was about, or those in the regions that it was about
 abbrev pub covered : Machine → ℕ
@@ -34,7 +34,7 @@ abbrev pub most_answers : State → ℕ
 most_answers s = 6 * len s.registrations + 3 * (len s.short + len s.long) + len s.cleanups + most_rows (ephemerons_in s)
 
 abbrev pub PassesEnd : Type 0
-PassesEnd = (old begun m : Machine) (n : ℕ) → IsBegun old begun → Hears begun m n → n ≤ most_answers old.finalizers.state
+PassesEnd = (from : ℕ) (old begun m : Machine) (n : ℕ) → IsBegunFrom from old begun → Hears begun m n → n ≤ most_answers old.finalizers.state
 
 -- this many questions about regions were answered since a pass began, each by `next_marks`; meanwhile other questions are answered, workers take and finish
 -- entries, and the host tells keys
@@ -47,7 +47,7 @@ pub data HearsMarks (begun : Machine) : Machine → ℕ → Type 0 where
 
 -- at most one question for each 64 regions, and one for those left over
 abbrev pub RegionQuestionsEnd : Type 0
-RegionQuestionsEnd = (old begun m : Machine) (n : ℕ) → IsBegun old begun → HearsMarks begun m n → n * BATCH < old.tabled + BATCH
+RegionQuestionsEnd = (from : ℕ) (old begun m : Machine) (n : ℕ) → IsBegunFrom from old begun → HearsMarks begun m n → n * BATCH < old.tabled + BATCH
 
 -- calls lead to the state, and they take and finish no more than the given history
 pub record IsCalled (past : Past) (s : State) : Type 0 where
@@ -58,7 +58,7 @@ pub record IsCalled (past : Past) (s : State) : Type 0 where
 
 -- calls lead through a pass, whatever keys are told, and to the state after one is abandoned
 pub data Proceeds (old new : Machine) : Type 0 where
-  Opens : IsBegun old new → Proceeds old new
+  Opens : (from : ℕ) → IsBegunFrom from old new → Proceeds old new
   Answered : (answers : List Bool) (next : Next) → GoesTo old answers new next → Proceeds old new
   Tells : (key : ℕ) → IsTold key old new → Proceeds old new
   Abandons : IsAbandoned old new → Proceeds old new

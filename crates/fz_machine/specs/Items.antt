@@ -1,11 +1,11 @@
 -- The items that phases process: links, ephemerons, registrations and cleanups.
 -- code: fz_machine/src/item.rt, listing.rt
-use Rattle.std.specs.Prelude.{◌≡◌, ℕ, zero, suc, ◌+◌, ◌*◌, ◌^◌, false, if◌then◌else◌, List, ◌++◌, map, nat_eq, All, refl}
+use Rattle.std.specs.Prelude.{◌≡◌, ℕ, zero, suc, ◌+◌, ◌*◌, ◌^◌, false, if◌then◌else◌, List, ◌++◌, filter, map, nat_eq, nat_le, All, refl}
 use Rattle.std.specs.Coded.{Coded, code_by, coded×, coded_ℕ}
 use Rattle.std.specs.List.{IsDistinct}
 use Rattle.std.specs.List.Sorted.{IsPermutation, IsNonDecreasingBy}
 use Rattle.std.specs.Map.{keys_of}
-use Rattle.std.specs.FinMap.{from_entries}
+use Rattle.std.specs.FinMap.{from_entries, retain_keys}
 use Rattle.std.specs.FinSet.{contains}
 use Rattle.fz_model.specs.declared.answers.Registration.{Registration}
 use Rattle.fz_model.specs.State.{Map}
@@ -51,14 +51,16 @@ AreLinks links items = (es : List (ℕ × ℕ)) × AreEntriesOf links es × (ite
 abbrev pub AreEphemerons : Ephemerons → List Item → Type 0
 AreEphemerons ephemerons items = (shorts : List Item) × (longs : List Item) × AreLinks ephemerons.short shorts × AreLinks ephemerons.long longs × (items ≡ shorts ++ longs)
 
--- the items are the registrations, each with its flag
-abbrev pub AreObjects : Map Registration → Set → List Item → Type 0
-AreObjects registrations late items =
-    (es : List (ℕ × Stored)) × AreEntriesOf registrations (map plain es) × All (λ (e : ℕ × Stored). e.1.unreachable ≡ contains late e.0) es × (items ≡ map of_stored es)
+-- the items are the registrations from this number on, each with its flag
+abbrev pub AreObjects : ℕ → Map Registration → Set → List Item → Type 0
+AreObjects from registrations late items =
+    (es : List (ℕ × Stored)) × AreEntriesOf registrations (map plain es) × All (λ (e : ℕ × Stored). e.1.unreachable ≡ contains late e.0) es
+    × (items ≡ map of_stored (filter (λ (e : ℕ × Stored). nat_le from e.1.number) es))
 
--- the items are the cleanups of this moment, in order
-abbrev pub AreCleanups : LinkKind → Map Attached → List Item → Type 0
-AreCleanups when cleanups items = (cs : List (ℕ × Attached)) × AreDue (λ (c : Attached). is_when when c.cleanup.when) cleanups cs × (items ≡ map of_cleanup cs)
+-- the items are the cleanups of this moment from this number on, in order
+abbrev pub AreCleanups : ℕ → LinkKind → Map Attached → List Item → Type 0
+AreCleanups from when cleanups items =
+    (cs : List (ℕ × Attached)) × AreDue (λ (c : Attached). is_when when c.cleanup.when) (retain_keys cleanups (nat_le from)) cs × (items ≡ map of_cleanup cs)
 
 -- an item's sort key: position in queue order, then address
 abbrev pub place_of : Item → ℕ

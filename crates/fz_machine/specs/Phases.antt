@@ -227,29 +227,34 @@ off_in LateAgain off = none_off
 off_in LongTargets off = none_off
 off_in phase off = off
 
+-- the least numbers of the registrations and of the cleanups that a pass looks at
+pub record Scope : Type 0 where
+  pub registrations : ℕ
+  pub cleanups : ℕ
+
 -- the list that a phase processes, given the list that it gets
-abbrev pub Lists : Phase → State → List Item → List Item → Type 0
-Lists (Keys moment) s given items = AreEphemerons s.ephemerons items
-Lists (KeysAgain moment) s given items = items ≡ given
-Lists (Holders moment) s given items = items ≡ given
-Lists (Values moment) s given items = items ≡ given
-Lists ShortCleanups s given items = AreCleanups Short s.cleanups items
-Lists ShortTargets s given items = AreLinks s.short items
-Lists ShortWords s given items = items ≡ given
-Lists ShortKeys s given items = AreLinks s.ephemerons.short items
-Lists ShortKeyWords s given items = items ≡ given
-Lists Objects s given items = AreObjects s.registrations s.late items
-Lists Children s given items = items ≡ given
-Lists Again s given items = items ≡ given
-Lists Picks s given items = AreInTurn given items
-Lists LateAgain s given items = items ≡ given
-Lists LatePicks s given items = items ≡ given
-Lists LongTargets s given items = AreLinks s.long items
-Lists LongWords s given items = items ≡ given
-Lists LongKeys s given items = AreLinks s.ephemerons.long items
-Lists LongKeyWords s given items = items ≡ given
-Lists ShortHolders s given items = AreLinks s.short items
-Lists LongHolders s given items = AreLinks s.long items
-Lists ShortKeyHolders s given items = AreLinks s.ephemerons.short items
-Lists LongKeyHolders s given items = AreLinks s.ephemerons.long items
-Lists LongCleanups s given items = AreCleanups Long s.cleanups items
+abbrev pub Lists : Phase → Scope → State → List Item → List Item → Type 0
+Lists (Keys moment) scope s given items = AreEphemerons s.ephemerons items
+Lists (KeysAgain moment) scope s given items = items ≡ given
+Lists (Holders moment) scope s given items = items ≡ given
+Lists (Values moment) scope s given items = items ≡ given
+Lists ShortCleanups scope s given items = AreCleanups scope.cleanups Short s.cleanups items
+Lists ShortTargets scope s given items = AreLinks s.short items
+Lists ShortWords scope s given items = items ≡ given
+Lists ShortKeys scope s given items = AreLinks s.ephemerons.short items
+Lists ShortKeyWords scope s given items = items ≡ given
+Lists Objects scope s given items = AreObjects scope.registrations s.registrations s.late items
+Lists Children scope s given items = items ≡ given
+Lists Again scope s given items = items ≡ given
+Lists Picks scope s given items = AreInTurn given items
+Lists LateAgain scope s given items = items ≡ given
+Lists LatePicks scope s given items = items ≡ given
+Lists LongTargets scope s given items = AreLinks s.long items
+Lists LongWords scope s given items = items ≡ given
+Lists LongKeys scope s given items = AreLinks s.ephemerons.long items
+Lists LongKeyWords scope s given items = items ≡ given
+Lists ShortHolders scope s given items = AreLinks s.short items
+Lists LongHolders scope s given items = AreLinks s.long items
+Lists ShortKeyHolders scope s given items = AreLinks s.ephemerons.short items
+Lists LongKeyHolders scope s given items = AreLinks s.ephemerons.long items
+Lists LongCleanups scope s given items = AreCleanups scope.cleanups Long s.cleanups items

@@ -6,7 +6,7 @@ use Rattle.fz_machine.specs.declared.item.Item.{Item}
 use Rattle.fz_machine.specs.declared.phase.Phase.{Phase}
 use Rattle.fz_machine.specs.declared.question.Question.{Question}
 use Rattle.fz_machine.specs.declared.question.TheConstants.{BATCH}
-use Rattle.fz_machine.specs.Phases.{next_phase, asks, subject, keeps, after, given, aside_in, off_in, Lists}
+use Rattle.fz_machine.specs.Phases.{Scope, next_phase, asks, subject, keeps, after, given, aside_in, off_in, Lists}
 use Rattle.fz_machine.specs.Off.{PutOff, looks_again, put_off}
 
 -- a phase in progress: the finalizers, the items kept for the next phase, the remaining ones, those set aside, and those put off
@@ -45,18 +45,18 @@ abbrev pub skip : Phase → Going → Going
 skip phase g = skipped phase g.left g
 
 -- the next phase begins
-pub record Begins (phase : Phase) (old new : Going) : Type 0 where
+pub record Begins (scope : Scope) (phase : Phase) (old new : Going) : Type 0 where
   pub same : new.finalizers ≡ old.finalizers
   pub none : new.kept ≡ []
-  pub lists : Lists phase old.finalizers (given phase old.kept old.aside old.off) new.left
+  pub lists : Lists phase scope old.finalizers (given phase old.kept old.aside old.off) new.left
   pub aside : new.aside ≡ aside_in phase old.kept old.aside
   pub off : new.off ≡ off_in phase old.off
 
 -- proceeding to the first phase with something to ask, or to the end
-pub data GoesOn : Phase → Going → Option Phase → Going → Type 0 where
-  Asks : {phase : Phase} {g : Going} (item : Item) (left : List Item) → (skip phase g).left ≡ item ∷ left → GoesOn phase g (Some phase) (skip phase g)
-  Turns : {phase next : Phase} {g h k : Going} {last : Option Phase} → (skip phase g).left ≡ [] → next_phase phase (looks_again (skip phase g).off) ≡ Some next → Begins next (skip phase g) h → GoesOn next h last k → GoesOn phase g last k
-  Ends : {phase : Phase} {g : Going} → (skip phase g).left ≡ [] → next_phase phase (looks_again (skip phase g).off) ≡ None → GoesOn phase g None (skip phase g)
+pub data GoesOn (scope : Scope) : Phase → Going → Option Phase → Going → Type 0 where
+  Asks : {phase : Phase} {g : Going} (item : Item) (left : List Item) → (skip phase g).left ≡ item ∷ left → GoesOn scope phase g (Some phase) (skip phase g)
+  Turns : {phase next : Phase} {g h k : Going} {last : Option Phase} → (skip phase g).left ≡ [] → next_phase phase (looks_again (skip phase g).off) ≡ Some next → Begins scope next (skip phase g) h → GoesOn scope next h last k → GoesOn scope phase g last k
+  Ends : {phase : Phase} {g : Going} → (skip phase g).left ≡ [] → next_phase phase (looks_again (skip phase g).off) ≡ None → GoesOn scope phase g None (skip phase g)
 
 -- a question about the first remaining items: as many as fit, about which the same is asked
 pub record IsQuestion (phase : Phase) (left : List Item) (q : Question) : Type 0 where

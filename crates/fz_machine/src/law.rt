@@ -1,7 +1,7 @@
 //! The result of a run of questions and answers.
 
 ghost use Rattle.fz_machine.specs.Heard.{PassesAreCalls, PassesEnd, RegionQuestionsEnd};
-ghost use Rattle.fz_machine.specs.Runs.{AsksRightly, RunsPass, RunsPlainPass, WordsAreAnswers};
+ghost use Rattle.fz_machine.specs.Runs.{AsksRightly, AsksYoungRightly, RunsPass, RunsPlainPass, RunsYoungPass, RunsYoungPlainPass, WordsAreAnswers, YoungWordsAreAnswers};
 
 /// A run whose answers are true of a graph carries out the model's pass, as `Finalizers::pass_with_ephemerons` does. Entries that are taken and finished between its questions
 /// might as well be taken and finished after the pass. What the host tells by `Machine::key_marked` need not be true.
@@ -52,4 +52,17 @@ pub fn questions_may_be_asked()
 pub fn words_are_answers()
     ensures exact { WordsAreAnswers (Unit {0}) }
     ensures more { WordsAreAnswers ⊥ }
+{}
+
+/// A pass that looks only at registrations and cleanups from a number on, as `Machine::begin_from` opens it, is a pass over all of them if the objects of the earlier ones are
+/// marked: all that the other functions here state of runs that answer for a graph holds of it, too.
+pub fn young_passes_are_passes()
+    ensures exact { RunsYoungPass (Unit {0}) }
+    ensures more { RunsYoungPass ⊥ }
+    ensures plain { RunsYoungPlainPass (Unit {0}) }
+    ensures plain_of_more { RunsYoungPlainPass ⊥ }
+    ensures asked { AsksYoungRightly (Unit {0}) }
+    ensures asked_of_more { AsksYoungRightly ⊥ }
+    ensures words { YoungWordsAreAnswers (Unit {0}) }
+    ensures words_of_more { YoungWordsAreAnswers ⊥ }
 {}
