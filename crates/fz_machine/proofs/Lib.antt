@@ -24,6 +24,7 @@ pub mod Sifting
 pub mod DeadWords
 pub mod Entered
 pub mod Ordered
+pub mod Younger
 pub mod Led
 pub mod Chosen
 pub mod Due

@@ -1,6 +1,6 @@
 -- The model of finalizers whose pass asks questions.
 -- code: fz_machine/src/machine.rt, pass.rt
-use Rattle.std.specs.Prelude.{◌≡◌, ◌⊎◌, ℕ, ◌+◌, ◌-◌, ◌<◌, ◌≤◌, min, zero, suc, Bool, false, List, [], ◌++◌, if◌then◌else◌, length, take, Option, Some, None, is_some, All, IsTrue, refl}
+use Rattle.std.specs.Prelude.{◌≡◌, ◌⊎◌, ℕ, ◌+◌, ◌-◌, ◌<◌, ◌≤◌, min, zero, suc, Bool, false, List, [], ◌++◌, length, take, Option, Some, None, is_some, All, IsTrue, refl}
 use Rattle.std.specs.Coded.{Coded, code_by, coded×, coded_ℕ, coded_option, coded_list, coded_bool}
 use Rattle.std.specs.FinMap.{len}
 use Rattle.std.specs.Map.{keys_of}
@@ -21,7 +21,7 @@ use Rattle.fz_machine.specs.declared.pass.Next.TheVariants.{Asks, Ended}
 use Rattle.fz_finalizers.specs.Follows.{Event, Follows, Take, TakeFinished, Finish, next_pass}
 use Rattle.fz_machine.specs.Going.{going, to_process}
 use Rattle.fz_machine.specs.Off.{PutOff, TellsOff, none_off}
-use Rattle.fz_machine.specs.Phases.{Scope}
+use Rattle.fz_machine.specs.Phases.{Scope, scope_by}
 use Rattle.fz_machine.specs.Regions.{items_in, place_in}
 use Rattle.fz_machine.specs.Steps.{Begins, Going, GoesOn, IsQuestion, steps}
 use Rattle.fz_machine.specs.Walks.{Walk, walk_code}
@@ -150,7 +150,7 @@ machine_code =
 
 -- the registrations and cleanups that an open pass looks at: by regions it comes to all registrations
 abbrev pub scope : Machine → Scope
-scope m = record { registrations = if m.noted then 0 else m.from; cleanups = m.from }
+scope m = scope_by m.noted m.from
 
 -- how many regions an open pass has still to process
 abbrev pub regions_left : Machine → ℕ

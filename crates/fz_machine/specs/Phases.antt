@@ -232,6 +232,10 @@ pub record Scope : Type 0 where
   pub registrations : ℕ
   pub cleanups : ℕ
 
+-- those from a number on; if they are noted in regions, a pass comes to all registrations
+abbrev pub scope_by : Bool → ℕ → Scope
+scope_by noted from = record { registrations = if noted then 0 else from; cleanups = from }
+
 -- the list that a phase processes, given the list that it gets
 abbrev pub Lists : Phase → Scope → State → List Item → List Item → Type 0
 Lists (Keys moment) scope s given items = AreEphemerons s.ephemerons items

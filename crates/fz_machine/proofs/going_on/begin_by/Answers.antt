@@ -27,7 +27,7 @@ returns-then-is_complete-clause-begins c =
       none = ap (λ (w : Walk). w.kept) c.clear.ensures;
       aside = ap (λ (w : Walk). w.aside) c.clear.ensures ∙ ap (λ (p : Phase). aside_in p c.args.walk.now.kept c.args.walk.now.aside) (sym is);
       off = ap (λ (w : Walk). w.off) c.clear.ensures ∙ ap (λ (p : Phase). off_in p c.args.walk.now.off) (sym is);
-      lists = subst (λ (p : Phase). Lists p s (given p c.args.walk.now.kept c.args.walk.now.aside c.args.walk.now.off) (items_in s c.begin.new.self.left ++ c.clear.new.self.left)) (sym is)
+      lists = subst (λ (p : Phase). Lists p (scope_by c.args.regions.now.complete c.args.from) s (given p c.args.walk.now.kept c.args.walk.now.aside c.args.walk.now.off) (items_in s c.begin.new.self.left ++ c.clear.new.self.left)) (sym is)
           (subst (AreObjects s.registrations s.late) (sym all) (regions_list s rs c.begin.ensures.regions noted));
     }
 
