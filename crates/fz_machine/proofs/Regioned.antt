@@ -276,8 +276,8 @@ module _ (s : State) where
         (IsDistinct-IsPermutation nat_eq (λ x y. nat_eq_equiv.symm x y) (keys_of rs) (keys_of (reverse rs)) (IsPermutation-map (λ (r : ℕ × ℕ). r.0) rs (reverse rs) (IsPermutation-reverse rs)) regions.once))
 
     -- of all regions, from the back, are those of the registrations
-    pub regions_list : AreObjects s.registrations s.late (items_in s (reverse rs))
-    regions_list = (entries (all_in (reverse rs)), (all, apart), flagged (all_in (reverse rs)), items_all (reverse rs) ∙ sym (items_are (all_in (reverse rs))))
+    pub regions_list : AreObjects 0 s.registrations s.late (items_in s (reverse rs))
+    regions_list = (entries (all_in (reverse rs)), (all, apart), flagged (all_in (reverse rs)), items_all (reverse rs) ∙ sym (items_are (all_in (reverse rs))) ∙ ap (map of_stored) (sym (all_young (entries (all_in (reverse rs))))))
 
     pub regions_fit : length (items_in s (reverse rs)) ≡ len s.registrations
     regions_fit =

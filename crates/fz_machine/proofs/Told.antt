@@ -33,13 +33,14 @@ nothing_told key (Some (Values moment)) off other = absurd (other moment refl)
 nothing_told key phase off other = refl
 
 -- the model of a machine with these parts
-abbrev pub model : View → Walk → Regions → Option Phase → ℕ → ℕ → Bool → Machine
-model f walk regions phase asked before by_regions = record {
+abbrev pub model : View → Walk → Regions → Option Phase → ℕ → ℕ → ℕ → Bool → Machine
+model f walk regions phase asked before from by_regions = record {
   finalizers = f;
   walk = walk_by f.state walk regions;
   phase = phase;
   asked = asked;
   before = before;
+  from = from;
   regions = take regions.asked regions.left;
   by_regions = by_regions;
   noted = regions.complete;
@@ -47,7 +48,7 @@ model f walk regions phase asked before by_regions = record {
   remaining = length regions.left;
 }
 
-pub is_told : (key : ℕ) (old : Machine) (f : View) (walk new : Walk) (regions : Regions) (phase : Option Phase) (asked before : ℕ) (by_regions : Bool) → model f walk regions phase asked before by_regions ≡ old → TellsIn phase key walk.off new.off
-    → new ≡ record walk { off = new.off; off_room = new.off_room } → IsTold key old (model f new regions phase asked before by_regions)
-is_told key old f walk new regions phase asked before by_regions view tells same =
-    subst (λ (m : Machine). IsTold key m (model f new regions phase asked before by_regions)) view (record { off = tells; same = ap (λ (w : Walk). model f w regions phase asked before by_regions) same })
+pub is_told : (key : ℕ) (old : Machine) (f : View) (walk new : Walk) (regions : Regions) (phase : Option Phase) (asked before from : ℕ) (by_regions : Bool) → model f walk regions phase asked before from by_regions ≡ old → TellsIn phase key walk.off new.off
+    → new ≡ record walk { off = new.off; off_room = new.off_room } → IsTold key old (model f new regions phase asked before from by_regions)
+is_told key old f walk new regions phase asked before from by_regions view tells same =
+    subst (λ (m : Machine). IsTold key m (model f new regions phase asked before from by_regions)) view (record { off = tells; same = ap (λ (w : Walk). model f w regions phase asked before from by_regions) same })

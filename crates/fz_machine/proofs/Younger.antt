@@ -1,5 +1,6 @@
 -- Registrations from a number on, as phases list them.
-use Rattle.std.proofs.Common.{◌≡◌, ◌&&◌, ◌++◌, ◌∷◌, ◌∙◌, [], ℕ, Bool, true, false, true≢false, cond, List, filter, map, nat_le, append-nil, refl, subst, ap}
+use Rattle.std.proofs.Common.{◌≡◌, ◌&&◌, ◌++◌, ◌∷◌, ◌∙◌, [], ℕ, Bool, true, false, true≢false, cond, List, filter, map, nat_le, append-nil, refl, subst, ap, arith}
+use Rattle.std.proofs.lemmas.Bool.{le-leb}
 use Rattle.std.proofs.lemmas.List.{map-append}
 use Rattle.std.proofs.lemmas.List.Elements.{filter-append}
 use Rattle.fz_table.specs.declared.stored.Stored.{Stored}
@@ -13,7 +14,7 @@ use Rattle.fz_machine.specs.Phases.{Lists, Scope, is_objects, scope_by}
 use Rattle.fz_machine.specs.Steps.{Begins, Going}
 
 module _ (from : ℕ) where
-  abbrev is_young : ℕ × Stored → Bool
+  abbrev pub is_young : ℕ × Stored → Bool
   is_young e = nat_le from e.1.number
 
   abbrev pub young_of : List (ℕ × Stored) → List Item
@@ -25,6 +26,11 @@ module _ (from : ℕ) where
       by : (b : Bool) → young_of es ++ map of_stored (cond b (e ∷ []) []) ≡ cond b (young_of es ++ of_stored e ∷ []) (young_of es)
       by true = refl
       by false = append-nil (young_of es)
+
+-- all are from the number 0 on
+pub all_young : (es : List (ℕ × Stored)) → filter (is_young 0) es ≡ es
+all_young [] = refl
+all_young (e ∷ es) = λ i. cond (le-leb 0 e.1.number (omega arith) i) (e ∷ all_young es i) (all_young es i)
 
 -- what only registrations are listed by makes no difference to other phases
 module _ (old new : Scope) (same : old.cleanups ≡ new.cleanups) (s : State) (given items : List Item) where

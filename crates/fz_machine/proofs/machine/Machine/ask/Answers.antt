@@ -24,7 +24,7 @@ returns-then-count-gt0-clause-goes c =
         c.in-Some.is,
         inr
             (asks_regions f.state walk regions c.in-Some.phase (subst (λ p. IsInOrder f.state walk regions p 0) c.in-Some.is c.go_on-self-inside.ensures.order) c.go_on-self-inside.ensures.first c.ask-count.result c.ask-count.ensures.count
-            c.if-count-gt0.true f c.go_on-self-inside.result c.self.inside.before c.self.inside.by_regions c.ask-count.new.self c.ask-count.new.about refl c.ask-count.ensures.asked c.ask-count.ensures.about c.ask-count.ensures.begin),
+            c.if-count-gt0.true f c.go_on-self-inside.result c.self.inside.before c.self.inside.from c.self.inside.by_regions c.ask-count.new.self c.ask-count.new.about refl c.ask-count.ensures.asked c.ask-count.ensures.about c.ask-count.ensures.begin),
       );
       before = ap (λ (m : Machine). m.before) c.self.view_is;
       from = ap (λ (m : Machine). m.from) c.self.view_is;
@@ -52,7 +52,7 @@ returns-clause-goes c =
         c.in-Some.is,
         inl
             (asks_items f.state walk regions c.in-Some.phase (subst (λ p. IsInOrder f.state walk regions p 0) c.in-Some.is c.go_on-self-inside.ensures.order) none
-            f c.go_on-self-inside.result c.self.inside.before c.ask-count.result c.self.inside.by_regions c.ask-count.new.self q refl c.ask-count.ensures.asked (subst (λ xs. IsQuestion c.in-Some.phase xs q) c.left.ensures c.question-ask.ensures)),
+            f c.go_on-self-inside.result c.self.inside.before c.self.inside.from c.ask-count.result c.self.inside.by_regions c.ask-count.new.self q refl c.ask-count.ensures.asked (subst (λ xs. IsQuestion c.in-Some.phase xs q) c.left.ensures c.question-ask.ensures)),
       );
       before = ap (λ (m : Machine). m.before) c.self.view_is;
       from = ap (λ (m : Machine). m.from) c.self.view_is;
