@@ -279,8 +279,20 @@ module _ (E : Type 0) (word_of : ℕ → Option ℕ) (value : Map Object → ℕ
     pub makes_plain_pass : MakesPlainPass E word_of old.finalizers.state before new.finalizers.state after_it
     makes_plain_pass = record { passed = end; passes = passes_plain; works = works_so; marks = marks_so; closed = closed_so }
 
+pub runs_young_pass : (E : Type 0) → RunsYoungPass E
+runs_young_pass E from word_of value old begun new past before after_it reached is may seen runs ends = makes_pass E word_of value from old begun new past before after_it reached is may seen runs ends
+
+pub runs_young_plain_pass : (E : Type 0) → RunsYoungPlainPass E
+runs_young_plain_pass E from word_of value old begun new past before after_it reached none is may seen runs ends = makes_plain_pass E word_of value from old begun new past before after_it reached is may seen runs ends none
+
+-- nothing comes before the first number
+pub none_old : (s : State) (g : Graph) → AreOldMarked 0 s g
+none_old s g = record { registered = λ object r here lt. absurd (omega (arith, lt)); attached = λ number c here lt. absurd (omega (arith, lt)) }
+
 pub runs_pass : (E : Type 0) → RunsPass E
-runs_pass E word_of value from old begun new past before after_it reached is may seen runs ends = makes_pass E word_of value from old begun new past before after_it reached is may seen runs ends
+runs_pass E word_of value old begun new past before after_it reached is may runs ends =
+    runs_young_pass E 0 word_of value old begun new past before after_it reached is may (none_old old.finalizers.state before) runs ends
 
 pub runs_plain_pass : (E : Type 0) → RunsPlainPass E
-runs_plain_pass E word_of value old begun new past before after_it reached none is may runs ends = makes_plain_pass E word_of value from old begun new past before after_it reached is may seen runs ends none
+runs_plain_pass E word_of value old begun new past before after_it reached none is may runs ends =
+    runs_young_plain_pass E 0 word_of value old begun new past before after_it reached none is may (none_old old.finalizers.state before) runs ends

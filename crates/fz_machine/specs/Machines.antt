@@ -204,14 +204,14 @@ abbrev pub at_begin : State → Going
 at_begin s = record { finalizers = s; kept = []; left = []; aside = []; off = none_off }
 
 -- a pass has begun over the registrations and cleanups from a number on
-pub record IsBegunFrom (from : ℕ) (old new : Machine) : Type 0 where
+pub record IsBegunFrom (number : ℕ) (old new : Machine) : Type 0 where
   pub phase : new.phase ≡ Some (Keys First)
   pub finalizers : new.finalizers.state ≡ record old.finalizers.state { passes = next_pass old.finalizers.passes }
   pub begins : Begins (scope new) (Keys First) (at_begin new.finalizers.state) (going new.finalizers new.walk)
   pub asked : new.asked ≡ 0
   pub regions : new.regions ≡ []
   pub before : new.before ≡ length old.finalizers.queue
-  pub from : new.from ≡ from
+  pub from : new.from ≡ number
   pub by_regions : new.by_regions ≡ old.by_regions
   pub noted : new.noted ≡ old.noted
   pub tabled : new.tabled ≡ old.tabled
