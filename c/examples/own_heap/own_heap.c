@@ -84,17 +84,22 @@ static void mark_words(own_heap *heap, const object *it, const object *other)
             mark_word(heap, it->words[n]);
 }
 
-/* Of a value each object is told that is marked on the way: it may be a key. */
-static void mark_on(own_heap *heap, bool is_value)
+/* Follows the words of an object that stands in the list. NULL: there is none. */
+static object *scan_one(own_heap *heap)
 {
-    object *it;
+    object *it = heap->to_scan;
 
-    while ((it = heap->to_scan)) {
+    if (it) {
         heap->to_scan = it->next_to_scan;
-        if (is_value)
-            (void)derrimas_finalizers_key_marked(&heap->finalizers, own_heap_number(it->words)); /* can't fail: it is open */
         mark_words(heap, it, NULL);
     }
+    return it;
+}
+
+static void mark_on(own_heap *heap)
+{
+    while (scan_one(heap))
+        ;
 }
 
 /* ---- the answers to a pass */
@@ -110,13 +115,13 @@ static void mark_children(void *data, uint64_t what, bool but_itself)
     object *it = object_at(what);
 
     mark_words(data, it, but_itself ? it : NULL);
-    mark_on(data, false);
+    mark_on(data);
 }
 
 static void mark(void *data, uint64_t what)
 {
     mark_word(data, what);
-    mark_on(data, false);
+    mark_on(data);
 }
 
 static void mark_alone(void *data, uint64_t what)
@@ -137,15 +142,15 @@ static bool holder_is_marked(void *data, uint64_t word)
     return holder_of(word)->is_marked;
 }
 
-/* The word lies in an object that isn't scanned: so nothing else marks its value. */
+/* The word lies in an object that isn't scanned: so nothing else marks its value. What is marked on the way may be a key. */
 static bool mark_value(void *data, uint64_t word)
 {
     own_heap *heap = data;
-    bool is_new;
+    bool is_new = false;
 
     mark_word(heap, holder_of(word)->words[word >> 48]);
-    is_new = heap->to_scan != NULL;
-    mark_on(heap, true);
+    for (object *it; (it = scan_one(heap)); is_new = true)
+        (void)derrimas_finalizers_key_marked(&heap->finalizers, own_heap_number(it->words)); /* can't fail: it is open */
     return is_new;
 }
 
@@ -171,7 +176,7 @@ size_t own_heap_collect(own_heap *heap)
     mark_roots_of_finalizers(heap, DERRIMAS_FINALIZERS_HELD_OBJECTS);
     mark_roots_of_finalizers(heap, DERRIMAS_FINALIZERS_HELD_DATA);
     mark_roots_of_finalizers(heap, DERRIMAS_FINALIZERS_REGISTERED_DATA);
-    mark_on(heap, false);
+    mark_on(heap);
     (void)derrimas_finalizers_pass(&heap->finalizers, &host, heap, NULL); /* can't fail: it is open, and no answer calls it */
     return sweep(heap);
 }
