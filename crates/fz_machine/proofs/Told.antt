@@ -1,12 +1,9 @@
 -- A machine whose host tells a key.
-use Rattle.std.proofs.Common.{◌≡◌, ◌≤◌, ◌+◌, ℕ, Bool, List, length, Option, Some, ap, arith, refl, subst, sym, take}
-use Rattle.fz_finalizers.specs.States.{State, View}
-use Rattle.fz_machine.specs.declared.phase.Moment.{Moment}
+use Rattle.std.proofs.Common.{◌≡◌, ◌≤◌, ◌+◌, ℕ, Option, arith, subst, sym}
+use Rattle.fz_finalizers.specs.States.{State}
 use Rattle.fz_machine.specs.declared.phase.Phase.{Phase}
-use Rattle.fz_machine.specs.declared.phase.Phase.TheVariants.{Values}
-use Rattle.fz_machine.specs.Going.{IsInOrder, walk_by}
-use Rattle.fz_machine.specs.Machines.{IsTold, Machine, TellsIn}
-use Rattle.fz_machine.specs.Off.{PutOff, TellsOff, count_off}
+use Rattle.fz_machine.specs.Going.{IsInOrder}
+use Rattle.fz_machine.specs.Off.{TellsOff}
 use Rattle.fz_machine.specs.Regions.{Regions}
 use Rattle.fz_machine.specs.Walks.{Walk}
 use Rattle.fz_machine.proofs.Index.{told_off_count}
@@ -26,29 +23,3 @@ told_in_order s walk new regions phase asked key order tells same room =
       by_regions = order.by_regions;
     } in
     subst (λ (w : Walk). IsInOrder s w regions phase asked) (sym same) now
-
--- if no value was asked about, nothing is told
-pub nothing_told : (key : ℕ) (phase : Option Phase) (off : PutOff) → ((moment : Moment) → phase ≡ Some (Values moment) → ⊥) → TellsIn phase key off off
-nothing_told key (Some (Values moment)) off other = absurd (other moment refl)
-nothing_told key phase off other = refl
-
--- the model of a machine with these parts
-abbrev pub model : View → Walk → Regions → Option Phase → ℕ → ℕ → ℕ → Bool → Machine
-model f walk regions phase asked before from by_regions = record {
-  finalizers = f;
-  walk = walk_by f.state walk regions;
-  phase = phase;
-  asked = asked;
-  before = before;
-  from = from;
-  regions = take regions.asked regions.left;
-  by_regions = by_regions;
-  noted = regions.complete;
-  tabled = length regions.order;
-  remaining = length regions.left;
-}
-
-pub is_told : (key : ℕ) (old : Machine) (f : View) (walk new : Walk) (regions : Regions) (phase : Option Phase) (asked before from : ℕ) (by_regions : Bool) → model f walk regions phase asked before from by_regions ≡ old → TellsIn phase key walk.off new.off
-    → new ≡ record walk { off = new.off; off_room = new.off_room } → IsTold key old (model f new regions phase asked before from by_regions)
-is_told key old f walk new regions phase asked before from by_regions view tells same =
-    subst (λ (m : Machine). IsTold key m (model f new regions phase asked before from by_regions)) view (record { off = tells; same = ap (λ (w : Walk). model f w regions phase asked before from by_regions) same })
