@@ -76,7 +76,7 @@ uint8_t fz_machine_move_ephemeron(derrimas_finalizers *finalizers, uint64_t word
 uint8_t fz_machine_key_marked(derrimas_finalizers *finalizers, uint64_t key);
 uint8_t fz_machine_add_cleanup(derrimas_finalizers *finalizers, uint64_t object, bool is_long, uint64_t proc, uint64_t cd, uint8_t rank, uint64_t *number);
 uint8_t fz_machine_cancel(derrimas_finalizers *finalizers, uint64_t number, derrimas_finalizers_old *old);
-uint8_t fz_machine_begin(derrimas_finalizers *finalizers);
+uint8_t fz_machine_begin(derrimas_finalizers *finalizers, uint64_t from);
 uint8_t fz_machine_next(derrimas_finalizers *finalizers, uint64_t answers, derrimas_question *question, derrimas_finalizers_passed *passed);
 uint8_t fz_machine_abandon(derrimas_finalizers *finalizers);
 uint8_t fz_machine_queue_all(derrimas_finalizers *finalizers, uint64_t *queued);
