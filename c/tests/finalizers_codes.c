@@ -93,7 +93,7 @@ uint8_t fz_machine_cancel(derrimas_finalizers *f, uint64_t cleanup, derrimas_fin
     return noted(place, sizeof *place, f == &finalizers, cleanup, 1, 0, 0);
 }
 
-uint8_t fz_machine_begin(derrimas_finalizers *f) { return noted(NULL, 0, f == &finalizers, 0, 0, 0, 0); }
+uint8_t fz_machine_begin(derrimas_finalizers *f, uint64_t from) { return noted(NULL, 0, f == &finalizers, from, 6, 0, 0); }
 
 uint8_t fz_machine_next(derrimas_finalizers *f, uint64_t answers, derrimas_question *question, derrimas_finalizers_passed *passed)
 {
@@ -334,6 +334,9 @@ static void changes(void)
     IS(derrimas_finalizers_shrink(&finalizers), answer);
     IS(given[0] == 1 && given[1] == 46, true);
     IS(derrimas_finalizers_begin(&finalizers), answer);
+    IS(given[0] == 1 && given[1] == 0 && given[2] == 6, true);
+    IS(derrimas_finalizers_begin_from(&finalizers, 70), answer);
+    IS(given[1], 70);
 }
 
 /* How many entries wait follows what the exports say: 34 more at a pass's end, 5 of .._queue_all, 7 of .._queue_cleanups, one fewer by a take. */

@@ -129,11 +129,11 @@ uint8_t fz_machine_cancel(derrimas_finalizers *f, uint64_t number, derrimas_fina
     return FILLED(noted("cancel" N, number), old, derrimas_finalizers_old, V(0), V(1), V(0) != 0);
 }
 
-uint8_t fz_machine_begin(derrimas_finalizers *f)
+uint8_t fz_machine_begin(derrimas_finalizers *f, uint64_t from)
 {
     (void)f;
     asked_marks = false;
-    return noted("begin");
+    return from ? noted("begin" N, from) : noted("begin");
 }
 
 static derrimas_ask ask_of(uint64_t value) { return value == 9 ? DERRIMAS_ASK_MARK_VALUE : (derrimas_ask)(value % 8 + 1); }

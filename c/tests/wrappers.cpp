@@ -253,9 +253,9 @@ static string asked(finalizers &f, std::uint64_t answers)
     return pass.next(answers, &question) ? shown(question) : "ended:" + shown(pass.did());
 }
 
-static string abandoned(finalizers &f, bool by_scope)
+static string abandoned(finalizers &f, bool by_scope, std::uint64_t from = 0)
 {
-    finalizers::open_pass pass(f);
+    finalizers::open_pass pass(f, from);
     if (!by_scope)
         pass.abandon();
     return "done";
@@ -431,9 +431,11 @@ static const std::map<string, member> members = {
                                                                                 static_cast<std::uint8_t>(a.number(4))))},
     {"finalizers_cancel", SHOWN(f.finalizers.cancel(a.number(0)))},
     {"finalizers_begin", [](fixture &f, const arguments &) { return abandoned(f.finalizers, true); }},
+    {"finalizers_begin_from", [](fixture &f, const arguments &a) { return abandoned(f.finalizers, true, a.number(0)); }},
     {"finalizers_abandon", [](fixture &f, const arguments &) { return abandoned(f.finalizers, false); }},
     {"finalizers_next", [](fixture &f, const arguments &a) { return asked(f.finalizers, a.number(0)); }},
     {"finalizers_pass", [](fixture &f, const arguments &a) { return pass_over(f.finalizers, a); }},
+    {"finalizers_pass_from", SHOWN(f.finalizers.pass_from(a.number(0), whole_host{{false}}))},
     {"finalizers_why", [](fixture &f, const arguments &a) { return reasoned(f.finalizers, a); }},
     {"finalizers_stuck", [](fixture &f, const arguments &a) { return stuck(f.finalizers, a); }},
     {"finalizers_queue_all", SHOWN(f.finalizers.queue_all())},

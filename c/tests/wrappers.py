@@ -274,8 +274,8 @@ def in_pass(member):
     return made
 
 
-def abandoned(finalizers, by_scope):
-    with finalizers.open_pass() as questions:
+def abandoned(finalizers, by_scope, start=0):
+    with finalizers.open_pass(start) as questions:
         return 'done' if by_scope else done(questions.abandon())
 
 
@@ -377,9 +377,11 @@ MEMBERS_OF_FINALIZERS = {
     'add_cleanup': lambda *arguments: shown(with_kind(OVER.add_cleanup, name='when')(*arguments)),
     'cancel': lambda it, number: unregistered(it.cancel(number)),
     'begin': lambda it: abandoned(it, True),
+    'begin_from': lambda it, start: abandoned(it, True, start),
     'abandon': lambda it: abandoned(it, False),
     'next': asked,
     'pass': passed,
+    'pass_from': lambda it, start: shown(it.run_pass(Host('returns'), start)),
     'why': reasoned,
     'stuck': stuck,
     'queue_all': lambda it: shown(it.queue_all()),
