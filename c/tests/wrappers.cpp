@@ -443,6 +443,7 @@ static const std::map<string, member> members = {
     {"finalizers_take", SHOWN_IN_PASS(shown(f.finalizers.take()))},
     {"finalizers_take_finished", SHOWN_IN_PASS(shown(f.finalizers.take_finished()))},
     {"finalizers_finish", SHOWN_IN_PASS((f.finalizers.finish(a.finalizers_entry(0)), string("done")))},
+    {"finalizers_next_number", SHOWN((f.finalizers.register_object(a.number(0), finalizers::kind::normal, a.number(1), a.number(2)), f.finalizers.next_number()))},
     {"finalizers_has_waiting", SHOWN((f.finalizers.queue_all(), f.finalizers.has_waiting()))},
     {"finalizers_invoke", [](fixture &f, const arguments &a) { return invoked(f.finalizers, a.is("throws")); }},
     {"finalizers_roots", [](fixture &f, const arguments &a) { return walked([&](auto visit) { f.finalizers.roots(a.kind(sorts_of_roots), visit); }); }},

@@ -389,6 +389,7 @@ MEMBERS_OF_FINALIZERS = {
     'take': in_pass(lambda it: shown(it.take())),
     'take_finished': in_pass(lambda it: shown(it.take_finished())),
     'finish': in_pass(lambda it, first: done(it.finish(over.Entry(*range(first, first + 6))))),
+    'next_number': lambda it, object, proc, cd: (it.register(object, proc, cd), shown(it.next_number()))[1],
     'has_waiting': waiting_after_all,
     'invoke': run_of_finalizers,
     'roots': lambda it, sort: walked(it.roots(sort)),
