@@ -1,5 +1,5 @@
 -- The index of ephemerons that are put off, and those that are told.
-use Rattle.std.proofs.Common.{All, ◌==◌, ◌⊎◌, ⊎_elim, ◌≡◌, ◌≤◌, ◌<◌, ◌+◌, ◌-◌, ◌++◌, ◌∙◌, ℕ, zero, suc, Bool, true, false, true≢false, cond, not, List, [], ◌∷◌, filter, map, take, drop, set, length, get_or, slice_get, nat_eq, nat_lt, Option, Some, None, refl, sym, ap, subst, add-one, append_assoc, append-nil, arith}
+use Rattle.std.proofs.Common.{All, ◌==◌, ⊎_elim, ◌≡◌, ◌≤◌, ◌<◌, ◌+◌, ◌-◌, ◌++◌, ◌∙◌, ℕ, zero, suc, Bool, true, false, true≢false, cond, not, List, [], ◌∷◌, filter, map, take, drop, set, length, get_or, slice_get, nat_eq, nat_lt, Some, refl, sym, ap, subst, append_assoc, append-nil, arith}
 use Rattle.std.proofs.lemmas.Bool.Decides.{nat_tests}
 use Rattle.std.proofs.lemmas.Bool.{cases_lt, eq-eqb, eqb-true, ltb-false, ltb-true}
 use Rattle.std.proofs.lemmas.List.{get_or-drop, get_or-take, length-append, length-drop, length-map, length-take-le, map-append, take-append-drop, take-append-le, take_all, take_more}

@@ -1,12 +1,12 @@
 -- A machine whose host tells a key.
-use Rattle.std.proofs.Common.{◌≡◌, ◌≤◌, ◌+◌, ℕ, Bool, List, length, Option, Some, ap, arith, refl, subst, sym, take}
+use Rattle.std.proofs.Common.{◌≡◌, ◌≤◌, ℕ, Bool, length, Option, Some, ap, arith, refl, subst, sym, take}
 use Rattle.fz_finalizers.specs.States.{State, View}
 use Rattle.fz_machine.specs.declared.phase.Moment.{Moment}
 use Rattle.fz_machine.specs.declared.phase.Phase.{Phase}
 use Rattle.fz_machine.specs.declared.phase.Phase.TheVariants.{Values}
 use Rattle.fz_machine.specs.Going.{IsInOrder, walk_by}
 use Rattle.fz_machine.specs.Machines.{IsTold, Machine, TellsIn}
-use Rattle.fz_machine.specs.Off.{PutOff, TellsOff, count_off}
+use Rattle.fz_machine.specs.Off.{PutOff, TellsOff}
 use Rattle.fz_machine.specs.Regions.{Regions}
 use Rattle.fz_machine.specs.Walks.{Walk}
 use Rattle.fz_machine.proofs.Index.{told_off_count}

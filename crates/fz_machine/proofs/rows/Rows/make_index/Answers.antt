@@ -1,4 +1,4 @@
-use Rattle.std.proofs.Common.{◌∙◌, List, [], length, map, rules, subst, sym, ap, arith}
+use Rattle.std.proofs.Common.{◌∙◌, List, length, map, rules, subst, ap, arith}
 use Rattle.std.specs.List.Sorted.{IsPermutation}
 use Rattle.std.proofs.lemmas.List.Sorted.{IsNonDecreasingBy-from_sort_by_key, length_permutation}
 use Rattle.fz_machine.specs.declared.item.Item.{Item}
