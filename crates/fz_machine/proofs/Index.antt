@@ -1,5 +1,5 @@
 -- The index of ephemerons that are put off, and those that are told.
-use Rattle.std.proofs.Common.{All, ◌==◌, ◌⊎◌, ⊎_elim, ◌≡◌, ◌≤◌, ◌<◌, ◌+◌, ◌-◌, ◌++◌, ◌∙◌, ℕ, zero, suc, Bool, true, false, true≢false, cond, not, List, [], ◌∷◌, filter, map, take, drop, set, length, get_or, slice_get, nat_eq, nat_lt, Option, Some, None, refl, sym, ap, subst, add-one, append_assoc, append-nil, arith}
+use Rattle.std.proofs.Common.{All, ◌==◌, ⊎_elim, ◌≡◌, ◌≤◌, ◌<◌, ◌+◌, ◌-◌, ◌++◌, ◌∙◌, ℕ, zero, suc, Bool, true, false, true≢false, cond, not, List, [], ◌∷◌, filter, map, take, drop, set, length, get_or, slice_get, nat_eq, nat_lt, Some, refl, sym, ap, subst, append_assoc, append-nil, arith}
 use Rattle.std.proofs.lemmas.Bool.Decides.{nat_tests}
 use Rattle.std.proofs.lemmas.Bool.{cases_lt, eq-eqb, eqb-true, ltb-false, ltb-true}
 use Rattle.std.proofs.lemmas.List.{get_or-drop, get_or-take, length-append, length-drop, length-map, length-take-le, map-append, take-append-drop, take-append-le, take_all, take_more}
@@ -226,12 +226,13 @@ module _ (key : ℕ) where
 
       -- all of them are, if those behind have other keys
       pub all_told : AreOthers (drop place old) → (now ≡ map (tell_row key) old) × (told ≡ before ++ filter (has key) (untold old))
-      all_told others =
-          (are.index ∙ ap (λ xs. map (tell_row key) (take place old) ++ xs) (sym (others_same (drop place old) others)) ∙ sym (map-append (tell_row key) (take place old) (drop place old)) ∙ ap (map (tell_row key)) (take-append-drop place old),
-          are.listed
-          ∙ ap (λ xs. before ++ xs)
-          (sym (append-nil (filter (has key) (untold (take place old)))) ∙ ap (λ xs. filter (has key) (untold (take place old)) ++ xs) (sym (others_none (drop place old) others))
-          ∙ sym (filter-append (has key) (untold (take place old)) (untold (drop place old))) ∙ ap (filter (has key)) (sym (untold-append (take place old) (drop place old)) ∙ ap untold (take-append-drop place old))))
+      all_told others = (
+        are.index ∙ ap (λ xs. map (tell_row key) (take place old) ++ xs) (sym (others_same (drop place old) others)) ∙ sym (map-append (tell_row key) (take place old) (drop place old)) ∙ ap (map (tell_row key)) (take-append-drop place old),
+        are.listed
+            ∙ ap (λ xs. before ++ xs)
+            (sym (append-nil (filter (has key) (untold (take place old)))) ∙ ap (λ xs. filter (has key) (untold (take place old)) ++ xs) (sym (others_none (drop place old) others))
+            ∙ sym (filter-append (has key) (untold (take place old)) (untold (drop place old))) ∙ ap (filter (has key)) (sym (untold-append (take place old) (drop place old)) ∙ ap untold (take-append-drop place old))),
+      )
 
   -- ---- in a sorted index
 

@@ -1,4 +1,4 @@
-use Rattle.std.proofs.Common.{◌∙◌, ◌++◌, append_assoc, length, sym, take, ap, arith}
+use Rattle.std.proofs.Common.{◌∙◌, length, take, ap, arith}
 use Rattle.std.proofs.lemmas.List.{length-append}
 use Rattle.fz_machine.specs.Off.{untold}
 use Rattle.fz_machine.proofs.Index.{may_put_row}

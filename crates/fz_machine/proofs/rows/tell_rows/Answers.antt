@@ -1,10 +1,9 @@
-use Rattle.std.proofs.Common.{refl, nat_lt, rules, subst, sym, ap, arith, ◌++◌, filter, map, vec_capacity, ◌≡◌, ◌∙◌, length, true, false}
+use Rattle.std.proofs.Common.{refl, nat_lt, rules, arith, vec_capacity, ◌≡◌, true, false}
 use Rattle.std.proofs.lemmas.List.{length-set}
-use Rattle.std.proofs.lemmas.List.Sorted.{IsNonDecreasingBy-from_sort, IsPartitionPoint-from_clause, IsPartitionedBy-ltb}
+use Rattle.std.proofs.lemmas.List.Sorted.{IsPartitionPoint-from_clause, IsPartitionedBy-ltb}
 use Rattle.std.specs.List.Sorted.{IsPartitionPoint}
 use Rattle.fz_machine.specs.declared.rows.Row.{Row}
-use Rattle.fz_machine.specs.declared.item.Item.{Item}
-use Rattle.fz_machine.specs.Off.{key_of, tell_row, untold}
+use Rattle.fz_machine.specs.Off.{key_of}
 use Rattle.fz_machine.proofs.Index.{may_tell, none_told, one_more_told, others_before, row_within, told_whole}
 use Rattle.fz_machine.proofs.rows.tell_rows.Goals as goal
 

@@ -1,4 +1,4 @@
-use Rattle.std.proofs.Common.{◌∙◌, List, [], length, map, rules, subst, sym, ap, arith}
+use Rattle.std.proofs.Common.{◌∙◌, List, length, map, rules, subst, ap, arith}
 use Rattle.std.specs.List.Sorted.{IsPermutation}
 use Rattle.std.proofs.lemmas.List.Sorted.{IsNonDecreasingBy-from_sort_by_key, length_permutation}
 use Rattle.fz_machine.specs.declared.item.Item.{Item}
@@ -29,8 +29,7 @@ returns-clause-indexed c =
     let p = index_of c.self.inside.stuck.items c.put_rows.new.index.items rows (c.put_rows.ensures.listed ∙ ap (map fresh) c.deref.ensures.value) sorted.permutation in
     let long = ap (λ (r : Rows). length r.off.index) c.self.view_is in
     let is = c.self.invariant.0 in
-    index_made c.args.self.now.off.index c.args.self.now.off (record { index = untold rows; stuck = c.clear-2.new.self.items; told = c.self.inside.told.items; again = c.self.inside.again }) (omega (arith, c.if-self-gt0.false, long, is))
-    (
+    index_made c.args.self.now.off.index c.args.self.now.off (record { index = untold rows; stuck = c.clear-2.new.self.items; told = c.self.inside.told.items; again = c.self.inside.again }) (omega (arith, c.if-self-gt0.false, long, is)) (
       (λ i. record { index = untold rows; stuck = c.clear-2.ensures.items i; told = (c.self.view_is i).off.told; again = (c.self.view_is i).off.again }),
       subst (λ (xs : List Item). IsPermutation xs (untold rows)) (ap (λ (r : Rows). r.off.stuck) c.self.view_is) p,
     )

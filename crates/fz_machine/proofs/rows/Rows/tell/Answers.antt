@@ -1,5 +1,5 @@
-use Rattle.std.proofs.Common.{◌≡◌, ◌+◌, ◌-◌, ◌++◌, ◌∙◌, List, filter, drop, length, map, take, sym, ap, refl, subst, arith}
-use Rattle.std.proofs.lemmas.List.{length-append, length-map}
+use Rattle.std.proofs.Common.{◌++◌, ◌∙◌, List, filter, drop, length, sym, ap, refl, subst, arith}
+use Rattle.std.proofs.lemmas.List.{length-map}
 use Rattle.std.specs.List.Sorted.{IsNonDecreasingBy}
 use Rattle.fz_machine.specs.declared.rows.Row.{Row}
 use Rattle.fz_machine.specs.Off.{Rows, count_off, key_of, tell_row, untold}
