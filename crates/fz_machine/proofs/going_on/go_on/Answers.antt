@@ -73,7 +73,7 @@ loop-phase-preserved c =
     subst (λ n. to_process (Some c.in-Some.next) n (length new.left) ≤ to_process_by (Some c.loop-phase.phase) mid) (sym same)
     (subst (IsTurned c.loop-phase.phase) (ap (next_phase c.loop-phase.phase) (sym c.looks_again.ensures) ∙ sym c.next.ensures ∙ c.in-Some.is) (turned c.loop-phase.phase (looks_again c.skip_by.new.walk.off)) (length mid.order) (length new.left) (length mid.left) c.begin_by.ensures.left) in
     record {
-      goes = λ last m rest. c.loop-phase.invariant.goes last m (turns_on c.loop-phase.phase g k c.skip_by.ensures.skipped c.in-Some.next h none (ap (next_phase c.loop-phase.phase) (sym c.looks_again.ensures) ∙ sym c.next.ensures ∙ c.in-Some.is) 
+      goes = λ last m rest. c.loop-phase.invariant.goes last m (turns_on c.loop-phase.phase g k c.skip_by.ensures.skipped c.in-Some.next h none (ap (next_phase c.loop-phase.phase) (sym c.looks_again.ensures) ∙ sym c.next.ensures ∙ c.in-Some.is)
           (subst (λ b. Begins (scope_by b c.args.from) c.in-Some.next k h) (c.skip_by.ensures.same ∙ c.loop-phase.invariant.complete) c.begin_by.ensures.begins) last m rest);
       order = c.begin_by.ensures.order;
       tabled = omega (arith, same, tabled, so_far);

@@ -9,7 +9,7 @@ use Rattle.fz_machine.proofs.going_on.go_on.Given as goal
 
 abbrev pub invariant-loop-phase : goal.invariant-loop-phase
 invariant-loop-phase l = record {
-  goes : (last : Option Phase) (k : Going) → GoesOn (scope_by l.initial.regions.complete l.initial.from) l.phase (going_by l.finalizers l.walk l.regions) last k 
+  goes : (last : Option Phase) (k : Going) → GoesOn (scope_by l.initial.regions.complete l.initial.from) l.phase (going_by l.finalizers l.walk l.regions) last k
       → GoesOn (scope_by l.initial.regions.complete l.initial.from) l.initial.phase (going_by l.initial.finalizers l.initial.walk l.initial.regions) last k;
   order : IsInOrder l.finalizers.state l.walk l.regions (Some l.phase) 0;
   tabled : length l.regions.order ≤ length l.initial.regions.order;
