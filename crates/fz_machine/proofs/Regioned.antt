@@ -24,6 +24,7 @@ use Rattle.fz_finalizers.specs.States.{State}
 use Rattle.fz_machine.specs.declared.item.Item.{Item}
 use Rattle.fz_machine.specs.Items.{AreObjects, of_late, of_other, of_stored}
 use Rattle.fz_machine.specs.Regions.{place_in, region_of, places, objects_in, item_at, items_of, items_in, AreNoted, AreRegions, IsNoted}
+use Rattle.fz_machine.proofs.Younger.{all_young}
 use Rattle.fz_machine.proofs.Places.{region_back, object_back, place_less}
 
 -- ---- the objects of regions

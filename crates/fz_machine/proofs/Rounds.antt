@@ -100,5 +100,8 @@ module _ (E : Type 0) (word_of : ℕ → Option ℕ) (value : Map Object → ℕ
     -- the round begins
     pub cleanups_begin : (s : State) (items : List Item) (h : Graph) → s ≡ b → h.objects ≡ before.objects → h.marked ≡ before.marked → AreCleanups begin.scope.cleanups Short s.cleanups items → (aside : List Item) (off : PutOff) → IsIn ShortCleanups s [] items aside off h
     cleanups_begin s items h state objects_are marks_are are aside off =
-        inl (refl, cleaning_begins E word_of value Short b before.objects before.marked begin.scope.cleanups s items h (young_attached E word_of value b before begin before.marked (λ a on. on)) state objects_are marks_are
-        (subst (λ (t : State). AreCleanups begin.scope.cleanups Short t.cleanups items) state are))
+        inl (
+          refl,
+          cleaning_begins E word_of value Short b before.objects before.marked begin.scope.cleanups s items h (young_attached E word_of value b before begin before.marked (λ a on. on)) state objects_are marks_are
+              (subst (λ (t : State). AreCleanups begin.scope.cleanups Short t.cleanups items) state are),
+        )

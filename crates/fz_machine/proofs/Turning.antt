@@ -324,8 +324,7 @@ module _ (E : Type 0) (word_of : ℕ → Option ℕ) (value : Map Object → ℕ
       )
   turn LongKeyHolders s kept aside off h (c, p) = λ items are.
       let all = holds_all E word_of value (λ others. after_picks E word_of value b before c (short_held E word_of value b before c) (long_held E word_of value b before c) (keys_held E word_of value b before c) others) (last E word_of value b before c)
-      (long_keys_left E word_of value b before c) c.kept s h p in
-      (
+      (long_keys_left E word_of value b before c) c.kept s h p in (
         c,
         cleaning_begins E word_of value Long (passed E word_of value b before c) (last E word_of value b before c) c.kept begin.scope.cleanups s items h
             (young_attached E word_of value b before begin c.kept (λ a on. c.settled.more a (c.marks.least a (inl (led_picked E word_of value b before begin c.first a (found_led E word_of value b before begin c.first.leading a on)))))) all.0 all.1 all.2

@@ -57,12 +57,12 @@ pub fn words_are_answers()
 /// A pass that looks only at registrations and cleanups from a number on, as `Machine::begin_from` opens it, is a pass over all of them if the objects of the earlier ones are
 /// marked: all that the other functions here state of runs that answer for a graph holds of it, too.
 pub fn young_passes_are_passes()
-    ensures exact { RunsYoungPass (Unit {0}) }
-    ensures more { RunsYoungPass ⊥ }
-    ensures plain { RunsYoungPlainPass (Unit {0}) }
-    ensures plain_of_more { RunsYoungPlainPass ⊥ }
-    ensures asked { AsksYoungRightly (Unit {0}) }
-    ensures asked_of_more { AsksYoungRightly ⊥ }
-    ensures words { YoungWordsAreAnswers (Unit {0}) }
-    ensures words_of_more { YoungWordsAreAnswers ⊥ }
+    ensures young { RunsYoungPass (Unit {0}) }
+    ensures young_of_more { RunsYoungPass ⊥ }
+    ensures plain_young { RunsYoungPlainPass (Unit {0}) }
+    ensures plain_young_of_more { RunsYoungPlainPass ⊥ }
+    ensures asked_young { AsksYoungRightly (Unit {0}) }
+    ensures asked_young_of_more { AsksYoungRightly ⊥ }
+    ensures words_young { YoungWordsAreAnswers (Unit {0}) }
+    ensures words_young_of_more { YoungWordsAreAnswers ⊥ }
 {}

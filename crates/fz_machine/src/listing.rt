@@ -121,13 +121,7 @@ fn walk_objects(finalizers: &Finalizers, from: u64, walk: &mut Walk)
 }
 
 /// Appends a cleanup to the list, which has room for it, if it is of this moment, and its number is at least `from`.
-fn put_if_when(
-    items: &mut Vec<Item>,
-    when: LinkKind,
-    from: u64,
-    number: u64,
-    attached: Attached,
-)
+fn put_if_when(items: &mut Vec<Item>, when: LinkKind, from: u64, number: u64, attached: Attached)
     requires room { vec_len items.old < vec_capacity items.old }
     ensures listed { items.new.items ≡ (if nat_le from number && is_when when attached.cleanup.when then items.old.items ++ of_cleanup (number, attached) ∷ [] else items.old.items) }
     // Tells the caller that the number is less than 2^64.

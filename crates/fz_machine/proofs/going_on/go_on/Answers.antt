@@ -1,8 +1,8 @@
 use Rattle.std.proofs.Common.{◌∙◌, ◌≤◌, Some, None, ap, length, sym, subst, arith}
 use Rattle.fz_machine.specs.Going.{going_by, to_process, to_process_by, HasRoomOff, HaveRoom}
 use Rattle.fz_machine.specs.Off.{looks_again}
-use Rattle.fz_machine.specs.Phases.{next_phase}
-use Rattle.fz_machine.specs.Steps.{Going}
+use Rattle.fz_machine.specs.Phases.{next_phase, scope_by}
+use Rattle.fz_machine.specs.Steps.{Begins, Going}
 use Rattle.fz_machine.proofs.Ending.{asks_on, fewer_left, follows_on, left_skipped, phases_left, turns_on, ends_on}
 use Rattle.fz_machine.proofs.Remained.{IsTurned, fewer_to_process, through, turned}
 use Rattle.fz_machine.proofs.going_on.go_on.Goals as goal
@@ -73,7 +73,8 @@ loop-phase-preserved c =
     subst (λ n. to_process (Some c.in-Some.next) n (length new.left) ≤ to_process_by (Some c.loop-phase.phase) mid) (sym same)
     (subst (IsTurned c.loop-phase.phase) (ap (next_phase c.loop-phase.phase) (sym c.looks_again.ensures) ∙ sym c.next.ensures ∙ c.in-Some.is) (turned c.loop-phase.phase (looks_again c.skip_by.new.walk.off)) (length mid.order) (length new.left) (length mid.left) c.begin_by.ensures.left) in
     record {
-      goes = λ last m rest. c.loop-phase.invariant.goes last m (turns_on c.loop-phase.phase g k c.skip_by.ensures.skipped c.in-Some.next h none (ap (next_phase c.loop-phase.phase) (sym c.looks_again.ensures) ∙ sym c.next.ensures ∙ c.in-Some.is) c.begin_by.ensures.begins last m rest);
+      goes = λ last m rest. c.loop-phase.invariant.goes last m (turns_on c.loop-phase.phase g k c.skip_by.ensures.skipped c.in-Some.next h none (ap (next_phase c.loop-phase.phase) (sym c.looks_again.ensures) ∙ sym c.next.ensures ∙ c.in-Some.is)
+          (subst (λ b. Begins (scope_by b c.args.from) c.in-Some.next k h) (c.skip_by.ensures.same ∙ c.loop-phase.invariant.complete) c.begin_by.ensures.begins) last m rest);
       order = c.begin_by.ensures.order;
       tabled = omega (arith, same, tabled, so_far);
       fewer = through (to_process_by (Some c.in-Some.next) new) (to_process_by (Some c.loop-phase.phase) mid) (to_process_by (Some c.loop-phase.phase) old) (to_process_by (Some c.args.phase) c.args.regions.now)
