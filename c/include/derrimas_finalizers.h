@@ -135,10 +135,10 @@ typedef struct derrimas_trace {
     void *data;
 } derrimas_trace;
 
-/* For derrimas_finalizers_dump alone: 1 more than the number of the last registration, and how many passes there have been;
- * and the first of these as it was before the pass (n + 1) * 2^thinned, in before[n]. */
+/* The number of the next registration or cleanup, for derrimas_finalizers_next_number. For derrimas_finalizers_dump how many
+ * passes there have been, and in before[n] that number as it was before the pass (n + 1) * 2^thinned. */
 typedef struct derrimas_finalizers_ages {
-    uint64_t registrations, passes, thinned, before[8];
+    uint64_t next, passes, thinned, before[8];
 } derrimas_finalizers_ages;
 
 /* The handle. Start it as {0}. There may be any number of them, each with its own memory. `waiting` is how many entries
@@ -343,12 +343,25 @@ derrimas_finalizers_add_cleanup(derrimas_finalizers *finalizers, uint64_t object
 derrimas_finalizers_code derrimas_finalizers_cancel(derrimas_finalizers *finalizers, uint64_t number,
                                                     derrimas_finalizers_old *old) DERRIMAS_NONNULL(1);
 
+/* The number that the next registration or cleanup gets.
+ * Refused: NOT_OPEN. */
+derrimas_finalizers_code derrimas_finalizers_next_number(const derrimas_finalizers *finalizers, uint64_t *number)
+    DERRIMAS_NONNULL(1, 2);
+
 /* ---- a pass, by questions and answers */
 
 /* Opens a pass, once the host's marking is done. Until its end entries may be taken and finished; all other changes are
  * refused with PASS_OPEN. Takes time proportional to the cleanups, of which it sorts the SHORT ones.
  * Refused: NOT_OPEN, PASS_OPEN. */
 derrimas_finalizers_code derrimas_finalizers_begin(derrimas_finalizers *finalizers) DERRIMAS_NONNULL(1);
+
+/* Opens a pass that looks only at registrations and cleanups whose numbers are at least `from`, for a young collection of a
+ * host with generations. If the objects of all others are marked, it is the same pass as one that .._begin opens. `from` is
+ * what .._next_number told when the objects that are old now were the newest. If an object before it isn't marked, the pass
+ * doesn't ask about it, and its registration or cleanup stays; but with the option `marks` a pass comes to all registrations.
+ * Links and ephemerons are looked at as in any pass. The tables of registrations and cleanups are walked over still.
+ * Refused: NOT_OPEN, PASS_OPEN. */
+derrimas_finalizers_code derrimas_finalizers_begin_from(derrimas_finalizers *finalizers, uint64_t from) DERRIMAS_NONNULL(1);
 
 /* Takes the answers to the question before (at first any), and puts the next question into *question. If the question
  * before was MARKS, its answers are in question->marks. EMPTY: there is none, and the pass has ended; what it did is in
@@ -357,11 +370,21 @@ derrimas_finalizers_code derrimas_finalizers_begin(derrimas_finalizers *finalize
  * option `marks` it takes time proportional to the regions of registered objects and to the unmarked objects, and not to
  * the registrations. Four times it asks about each ephemeron, and then in rounds, as long as values are marked, about those
  * that still wait for their keys or objects. A chain of n ephemerons, the value of each of which reaches the key of the next,
- * takes n rounds: so n ephemerons take at most time proportional to the square of n.
+ * takes n rounds: so n ephemerons take at most time proportional to the square of n. A host that makes the next call has
+ * rounds about those whose keys were marked.
  * Refused: NOT_OPEN, NO_PASS; EMPTY. */
 derrimas_finalizers_code derrimas_finalizers_next(derrimas_finalizers *finalizers, uint64_t answers,
                                                   derrimas_question *question, derrimas_finalizers_passed *passed)
     DERRIMAS_NONNULL(1, 3);
+
+/* Tells that the host has marked this object while it carries out a question MARK_VALUE: before all others that wait, the
+ * pass asks about the ephemerons of which it is the key. A host may make this call for each object that it marks then and
+ * that wasn't marked. With it a chain of n ephemerons takes time proportional to n times its logarithm. The result of the pass
+ * doesn't depend on it: if an object is left out, told twice, not marked or no key, that changes the time alone. At any other
+ * moment the call does nothing. It takes no memory, and time logarithmic in the ephemerons; the first call after a round about
+ * all that wait sorts these.
+ * Refused: NOT_OPEN. */
+derrimas_finalizers_code derrimas_finalizers_key_marked(derrimas_finalizers *finalizers, uint64_t key) DERRIMAS_NONNULL(1);
 
 /* Ends the open pass before its last question. What it has queued stays queued. A link or an ephemeron whose CLEAR wasn't
  * answered stays one, an object that wasn't queued stays registered, and a cleanup that wasn't queued stays. The host
@@ -637,13 +660,16 @@ static inline bool derrimas_host_is_whole(const derrimas_host *host, const derri
            || counts.short_ephemerons + counts.long_ephemerons == 0;
 }
 
-/* A whole pass, driven by the procedures of a host. They may make the calls that take a const handle, and must return.
+/* A whole pass, driven by the procedures of a host, which looks only at registrations and cleanups whose numbers are at least
+ * `from`: .._begin_from says which that may be. They may make the calls that take a const handle, and mark_value may call
+ * derrimas_finalizers_key_marked; they must return.
  * *passed, which may be NULL, is what it did. BAD_OPTIONS: the handle was opened with the option `marks`, and the host has
  * no `marks`; is_marked can't be asked instead, since there may be no object at a place of a region. Or there are
  * ephemerons, and the host has no mark_value.
  * Refused: BAD_OPTIONS, NOT_OPEN, PASS_OPEN. */
-static inline derrimas_finalizers_code derrimas_finalizers_pass(derrimas_finalizers *finalizers, const derrimas_host *host,
-                                                                void *data, derrimas_finalizers_passed *passed)
+static inline derrimas_finalizers_code derrimas_finalizers_pass_from(derrimas_finalizers *finalizers, uint64_t from,
+                                                                     const derrimas_host *host, void *data,
+                                                                     derrimas_finalizers_passed *passed)
 {
     derrimas_question question;
     uint64_t answers = 0;
@@ -651,12 +677,19 @@ static inline derrimas_finalizers_code derrimas_finalizers_pass(derrimas_finaliz
 
     if (!derrimas_host_is_whole(host, finalizers))
         return DERRIMAS_FINALIZERS_BAD_OPTIONS;
-    code = derrimas_finalizers_begin(finalizers);
+    code = derrimas_finalizers_begin_from(finalizers, from);
     if (code != DERRIMAS_FINALIZERS_OK)
         return code;
     while ((code = derrimas_finalizers_next(finalizers, answers, &question, passed)) == DERRIMAS_FINALIZERS_OK)
         answers = derrimas_host_answers(host, data, &question);
     return code == DERRIMAS_FINALIZERS_EMPTY ? DERRIMAS_FINALIZERS_OK : code;
+}
+
+/* The same over all registrations and cleanups. */
+static inline derrimas_finalizers_code derrimas_finalizers_pass(derrimas_finalizers *finalizers, const derrimas_host *host,
+                                                                void *data, derrimas_finalizers_passed *passed)
+{
+    return derrimas_finalizers_pass_from(finalizers, 0, host, data, passed);
 }
 
 #ifdef __cplusplus

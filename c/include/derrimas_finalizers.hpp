@@ -175,6 +175,9 @@ public:
         return static_cast<link_answer>(answer);
     }
 
+    /* For a host that answers DERRIMAS_ASK_MARK_VALUE, as derrimas_finalizers_key_marked. */
+    void key_marked(std::uint64_t key) { check(derrimas_finalizers_key_marked(&handle_, key)); }
+
     /* The number of the cleanup. */
     std::uint64_t add_cleanup(std::uint64_t object, when when, std::uint64_t proc, std::uint64_t cd, std::uint8_t rank = 0)
     {
@@ -191,11 +194,14 @@ public:
         return old.was ? std::optional(old) : std::nullopt;
     }
 
-    /* An open pass, question by question. If it is destroyed before the last question, the pass is abandoned: then the host reclaims nothing before its next
+    /* An open pass, question by question, over the registrations and cleanups from a number on, as derrimas_finalizers_begin_from. If it is destroyed before the last question, the pass is abandoned: then the host reclaims nothing before its next
      * pass has ended. The finalizers have to outlive it, and must not be moved. */
     class open_pass {
     public:
-        explicit open_pass(finalizers &finalizers) : handle_(&finalizers.handle_) { check(derrimas_finalizers_begin(handle_)); }
+        explicit open_pass(finalizers &finalizers, std::uint64_t from = 0) : handle_(&finalizers.handle_)
+        {
+            check(derrimas_finalizers_begin_from(handle_, from));
+        }
         ~open_pass()
         {
             if (is_open_)
@@ -231,11 +237,14 @@ public:
     /* A whole pass, whose questions the members of `host` answer and carry out: bool is_marked(object), mark_children(object, but_itself), mark(object),
      * mark_alone(object), clear(word), bool holder_is_marked(word). If one throws, the pass is abandoned. For finalizers that ask about regions the host has
      * std::uint64_t marks(first) too, and for those with ephemerons bool mark_value(word); otherwise the pass is refused with BadOptions. */
-    template <typename Host> passed pass(Host &&host)
+    template <typename Host> passed pass(Host &&host) { return pass_from(0, host); }
+
+    /* The same, over the registrations and cleanups from a number on. */
+    template <typename Host> passed pass_from(std::uint64_t from, Host &&host)
     {
         if ((handle_.asks_marks && !has_marks<Host>::value) || (!has_mark_value<Host>::value && has_ephemerons()))
             throw refused(DERRIMAS_FINALIZERS_BAD_OPTIONS);
-        open_pass open(*this);
+        open_pass open(*this, from);
         question question;
         for (std::uint64_t answers = 0; open.next(answers, &question);)
             answers = answers_of(host, question);
@@ -402,6 +411,14 @@ public:
     {
         entry entry;
         return found(derrimas_finalizers_unfinished(&handle_, from, &entry)) ? std::optional(entry) : std::nullopt;
+    }
+
+    /* The number of the next registration or cleanup. */
+    std::uint64_t next_number() const
+    {
+        std::uint64_t number;
+        check(derrimas_finalizers_next_number(&handle_, &number));
+        return number;
     }
 
     counts count() const

@@ -59,7 +59,7 @@ static code finished(const derrimas_finalizers *finalizers, code it, const derri
 
 enum { NOTES = sizeof((derrimas_finalizers_ages){0}.before) / sizeof(uint64_t) };
 
-/* A pass has begun: notes how many registrations came before it. Where there is no place left, every second note goes. */
+/* A pass has begun: notes which number comes next. Where there is no place left, every second note goes. */
 static void note_pass(derrimas_finalizers_ages *ages)
 {
     ages->passes++;
@@ -69,7 +69,7 @@ static void note_pass(derrimas_finalizers_ages *ages)
         ages->thinned++;
     }
     if (ages->passes >> ages->thinned << ages->thinned == ages->passes)
-        ages->before[(ages->passes >> ages->thinned) - 1] = ages->registrations;
+        ages->before[(ages->passes >> ages->thinned) - 1] = ages->next;
 }
 
 /* ---- memory */
@@ -230,7 +230,7 @@ code derrimas_finalizers_register(derrimas_finalizers *finalizers, uint64_t obje
     current = &finalizers->allocator;
     it = after_memory(fz_machine_register(finalizers, object, (uint8_t)kind, proc, cd, rank, &registered));
     if (it == DERRIMAS_FINALIZERS_OK)
-        finalizers->ages.registrations = registered.number + 1;
+        finalizers->ages.next = registered.number + 1;
     if (it == DERRIMAS_FINALIZERS_OK && number)
         *number = registered.number;
     if (it == DERRIMAS_FINALIZERS_OK && old) { /* word by word, as the export wrote them: a processor waits where two are read as one */
@@ -321,12 +321,18 @@ code derrimas_finalizers_move_ephemeron(derrimas_finalizers *finalizers, uint64_
 code derrimas_finalizers_add_cleanup(derrimas_finalizers *finalizers, uint64_t object, derrimas_finalizers_when when, uint64_t proc, uint64_t cd,
                                      uint8_t rank, uint64_t *number)
 {
-    uint64_t unwanted;
+    uint64_t added;
+    code it;
 
     if (!is_links(when))
         return DERRIMAS_FINALIZERS_BAD_KIND;
     current = &finalizers->allocator;
-    return after_memory(fz_machine_add_cleanup(finalizers, object, when == DERRIMAS_FINALIZERS_LONG, proc, cd, rank, number ? number : &unwanted));
+    it = after_memory(fz_machine_add_cleanup(finalizers, object, when == DERRIMAS_FINALIZERS_LONG, proc, cd, rank, &added));
+    if (it == DERRIMAS_FINALIZERS_OK)
+        finalizers->ages.next = added + 1;
+    if (it == DERRIMAS_FINALIZERS_OK && number)
+        *number = added;
+    return it;
 }
 
 code derrimas_finalizers_cancel(derrimas_finalizers *finalizers, uint64_t number, derrimas_finalizers_old *old)
@@ -336,11 +342,21 @@ code derrimas_finalizers_cancel(derrimas_finalizers *finalizers, uint64_t number
     return fz_machine_cancel(finalizers, number, old ? old : &unwanted);
 }
 
+code derrimas_finalizers_next_number(const derrimas_finalizers *finalizers, uint64_t *number)
+{
+    if (!finalizers->inside)
+        return DERRIMAS_FINALIZERS_NOT_OPEN;
+    *number = finalizers->ages.next;
+    return DERRIMAS_FINALIZERS_OK;
+}
+
 /* ---- a pass */
 
-code derrimas_finalizers_begin(derrimas_finalizers *finalizers)
+code derrimas_finalizers_begin(derrimas_finalizers *finalizers) { return derrimas_finalizers_begin_from(finalizers, 0); }
+
+code derrimas_finalizers_begin_from(derrimas_finalizers *finalizers, uint64_t from)
 {
-    code it = fz_machine_begin(finalizers);
+    code it = fz_machine_begin(finalizers, from);
 
     if (it == DERRIMAS_FINALIZERS_OK)
         note_pass(&finalizers->ages);
@@ -367,6 +383,8 @@ code derrimas_finalizers_next(derrimas_finalizers *finalizers, uint64_t answers,
         tell_cleared(finalizers, question);
     return it;
 }
+
+code derrimas_finalizers_key_marked(derrimas_finalizers *finalizers, uint64_t key) { return fz_machine_key_marked(finalizers, key); }
 
 code derrimas_finalizers_abandon(derrimas_finalizers *finalizers)
 {

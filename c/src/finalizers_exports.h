@@ -73,9 +73,10 @@ uint8_t fz_machine_move_link(derrimas_finalizers *finalizers, bool is_long, uint
 uint8_t fz_machine_ephemeron(derrimas_finalizers *finalizers, bool is_long, uint64_t word, uint64_t key, uint8_t *answer);
 uint8_t fz_machine_end_ephemeron(derrimas_finalizers *finalizers, uint64_t word, bool *was);
 uint8_t fz_machine_move_ephemeron(derrimas_finalizers *finalizers, uint64_t word, uint64_t to, uint8_t *answer);
+uint8_t fz_machine_key_marked(derrimas_finalizers *finalizers, uint64_t key);
 uint8_t fz_machine_add_cleanup(derrimas_finalizers *finalizers, uint64_t object, bool is_long, uint64_t proc, uint64_t cd, uint8_t rank, uint64_t *number);
 uint8_t fz_machine_cancel(derrimas_finalizers *finalizers, uint64_t number, derrimas_finalizers_old *old);
-uint8_t fz_machine_begin(derrimas_finalizers *finalizers);
+uint8_t fz_machine_begin(derrimas_finalizers *finalizers, uint64_t from);
 uint8_t fz_machine_next(derrimas_finalizers *finalizers, uint64_t answers, derrimas_question *question, derrimas_finalizers_passed *passed);
 uint8_t fz_machine_abandon(derrimas_finalizers *finalizers);
 uint8_t fz_machine_queue_all(derrimas_finalizers *finalizers, uint64_t *queued);

@@ -77,6 +77,8 @@ uint8_t fz_machine_move_ephemeron(derrimas_finalizers *f, uint64_t word, uint64_
     return told_link(noted(place, sizeof *place, f == &finalizers, word, to, 4, 0), place);
 }
 
+uint8_t fz_machine_key_marked(derrimas_finalizers *f, uint64_t key) { return noted(NULL, 0, f == &finalizers, key, 5, 0, 0); }
+
 uint8_t fz_machine_add_cleanup(derrimas_finalizers *f, uint64_t object, bool is_long, uint64_t proc, uint64_t cd, uint8_t rank, uint64_t *place)
 {
     uint8_t code = noted(place, sizeof *place, object, is_long, proc, cd, rank);
@@ -91,7 +93,7 @@ uint8_t fz_machine_cancel(derrimas_finalizers *f, uint64_t cleanup, derrimas_fin
     return noted(place, sizeof *place, f == &finalizers, cleanup, 1, 0, 0);
 }
 
-uint8_t fz_machine_begin(derrimas_finalizers *f) { return noted(NULL, 0, f == &finalizers, 0, 0, 0, 0); }
+uint8_t fz_machine_begin(derrimas_finalizers *f, uint64_t from) { return noted(NULL, 0, f == &finalizers, from, 6, 0, 0); }
 
 uint8_t fz_machine_next(derrimas_finalizers *f, uint64_t answers, derrimas_question *question, derrimas_finalizers_passed *passed)
 {
@@ -310,6 +312,8 @@ static void changes(void)
     THROUGH(linked, derrimas_finalizers_ephemeron(&finalizers, DERRIMAS_FINALIZERS_SHORT, 8, 9, &linked), 1, 0, 8, 9, 2);
     THROUGH(linked, derrimas_finalizers_move_ephemeron(&finalizers, 8, 9, &linked), 1, 8, 9, 4);
     THROUGH(was, derrimas_finalizers_end_ephemeron(&finalizers, 8, &was), 1, 8, 3);
+    IS(derrimas_finalizers_key_marked(&finalizers, 9), answer);
+    IS(given[0] == 1 && given[1] == 9 && given[2] == 5, true);
     IS(derrimas_finalizers_ephemeron(&finalizers, DERRIMAS_FINALIZERS_SHORT, 8, 9, NULL), answer);
     IS(derrimas_finalizers_move_ephemeron(&finalizers, 8, 9, NULL), answer);
     IS(derrimas_finalizers_end_ephemeron(&finalizers, 8, NULL), answer);
@@ -330,6 +334,9 @@ static void changes(void)
     IS(derrimas_finalizers_shrink(&finalizers), answer);
     IS(given[0] == 1 && given[1] == 46, true);
     IS(derrimas_finalizers_begin(&finalizers), answer);
+    IS(given[0] == 1 && given[1] == 0 && given[2] == 6, true);
+    IS(derrimas_finalizers_begin_from(&finalizers, 70), answer);
+    IS(given[1], 70);
 }
 
 /* How many entries wait follows what the exports say: 34 more at a pass's end, 5 of .._queue_all, 7 of .._queue_cleanups, one fewer by a take. */

@@ -1,5 +1,5 @@
 /* Ephemerons of derrimas_finalizers.h: each call over the range of its arguments, with each answer and each refusal; worked rows; the questions of passes over chains of
- * them; hosts that lie or lack mark_value. All of this with the option `marks` too.
+ * them, with the keys that are told and without; hosts that lie or lack mark_value. All of this with the option `marks` too.
  */
 #include "finalizers_host.h"
 
@@ -153,6 +153,7 @@ static void closed(void)
 
     changes_are_refused(DERRIMAS_FINALIZERS_NOT_OPEN);
     kinds_are_refused();
+    IS(derrimas_finalizers_key_marked(&finalizers, 8), DERRIMAS_FINALIZERS_NOT_OPEN);
     REFUSED(DERRIMAS_FINALIZERS_NOT_OPEN, key, derrimas_finalizers_key(&finalizers, 8, &kind, &key));
     REFUSED(DERRIMAS_FINALIZERS_NOT_OPEN, kind, derrimas_finalizers_key(&finalizers, 8, &kind, &key));
     for (int of = SHORT; of <= LONG; of++)
@@ -525,6 +526,128 @@ static void long_chain(size_t rows, bool against)
     closes();
 }
 
+/* A chain over objects that are numbers: object n is 16 * n, and the row of its key has the word 16 * n + 8, which lies in no object, and the value 16 * (n + 1). */
+enum { LONGEST = 100000 };
+
+static struct {
+    uint64_t questions, answers;
+    bool tells, marked[LONGEST + 2];
+} chain;
+
+static bool link_is_marked(void *data, uint64_t what) { return (void)data, chain.marked[what / 16]; }
+static bool no_holder(void *data, uint64_t word) { return (void)data, (void)word, true; }
+static void clears(void *data, uint64_t word) { (void)data, (void)word; }
+
+static bool marks_next(void *data, uint64_t word)
+{
+    const uint64_t value = word / 16 + 1;
+    const bool is_new = !chain.marked[value];
+
+    (void)data;
+    chain.marked[value] = true;
+    if (is_new && chain.tells)
+        OK(derrimas_finalizers_key_marked(&finalizers, 16 * value));
+    return is_new;
+}
+
+static void passes_over_chain(bool first_is_marked)
+{
+    static const derrimas_host links = {link_is_marked, NULL, NULL, NULL, clears, no_holder, NULL, marks_next};
+    derrimas_question question;
+    uint64_t answers = 0;
+
+    memset(chain.marked, 0, sizeof chain.marked);
+    chain.marked[1] = first_is_marked;
+    chain.questions = chain.answers = 0;
+    OK(derrimas_finalizers_begin(&finalizers));
+    while (derrimas_finalizers_next(&finalizers, answers, &question, NULL) == DERRIMAS_FINALIZERS_OK) {
+        chain.questions++;
+        chain.answers += question.count;
+        answers = derrimas_host_answers(&links, NULL, &question);
+    }
+}
+
+/* Where each key is told that is marked, the questions and the answers are proportional to the rows, whatever their order: 1 is that of the chain, the last against it. */
+static void chain_in_order(uint64_t rows, uint64_t step, bool tells)
+{
+    opens();
+    chain.tells = tells;
+    for (uint64_t n = 0, at = 0; n < rows; n++, at = (at + step) % rows)
+        IS(keyed(SHORT, 16 * (at + 1) + 8, 16 * (at + 1)), LINKED);
+    IS(counted().short_ephemerons, rows);
+    passes_over_chain(true);
+    for (uint64_t n = 1; n <= rows + 1; n++)
+        IS(chain.marked[n], true);
+    IS(counted().short_ephemerons, rows);
+    IS(!tells || (chain.questions <= 4 * rows + 40 && chain.answers <= 16 * rows), true);
+    IS(tells || chain.answers >= rows * rows / 2, true);
+    passes_over_chain(false);
+    IS(counted().short_ephemerons, 0);
+    closes();
+}
+
+/* A step that has no divisor with the rows goes over all of them. */
+static void long_chains(void)
+{
+    static const uint64_t lengths[] = {1, 2, 63, 64, 65, 1000, 10000, LONGEST};
+
+    for (size_t n = 0; n < sizeof lengths / sizeof *lengths; n++) {
+        const uint64_t rows = lengths[n];
+
+        chain_in_order(rows, 1, true);
+        chain_in_order(rows, rows - 1, true);
+        chain_in_order(rows, 7919, true);
+        if (rows > 1000)
+            continue;
+        chain_in_order(rows, rows - 1, false);
+        chain_in_order(rows, 7919, false);
+    }
+}
+
+/* Rows of one key are told together, each once, and one whose holder isn't marked yet waits for the next round about all. What is told falsely, twice, of no key, or at
+ * another question changes nothing. */
+static bool tells_all(void *data, uint64_t word)
+{
+    const bool is_new = mark_value(data, word);
+
+    for (size_t n = 0; n < 12; n++)
+        for (int twice = 0; twice < 2; twice++)
+            OK(derrimas_finalizers_key_marked(&finalizers, number_of(&objects[n])));
+    OK(derrimas_finalizers_key_marked(&finalizers, 0));
+    OK(derrimas_finalizers_key_marked(&finalizers, UINT64_MAX));
+    return is_new;
+}
+
+static bool tells_and_says(void *data, uint64_t object)
+{
+    OK(derrimas_finalizers_key_marked(&finalizers, object));
+    return answer_is_marked(data, object);
+}
+
+static void host_that_tells_all(void)
+{
+    derrimas_host says = procedures;
+    derrimas_finalizers_passed passed;
+
+    says.is_marked = tells_and_says;
+    says.mark_value = tells_all;
+    opens();
+    objects[0].is_root = objects[1].is_root = true;
+    row(SHORT, 0, 0, 1, 2);
+    row(LONG, 0, 1, 2, 3);
+    row(SHORT, 5, 0, 2, 4);  /* its holder is marked last */
+    row(SHORT, 0, 2, 3, 5);
+    row(LONG, 0, 3, 8, 9);   /* its key isn't marked */
+    row(SHORT, 10, 0, 2, 11); /* its holder isn't */
+    mark_all(&all, &finalizers);
+    OK(derrimas_finalizers_pass(&finalizers, &says, &all, &passed));
+    for (size_t n = 0; n < 12; n++)
+        IS(objects[n].is_marked, n < 6);
+    IS(counted().short_ephemerons == 3 && counted().long_ephemerons == 1 && objects[0].words[3] == 0, true);
+    IS(objects[10].words[0] == number_of(&objects[11]), true);
+    closes();
+}
+
 /* Of a row whose key or holder isn't marked the value isn't asked. */
 static void values_that_are_asked(void)
 {
@@ -684,7 +807,9 @@ static void both(void)
         long_chain(rows, false);
         long_chain(rows, true);
     }
+    long_chains();
     values_that_are_asked();
+    host_that_tells_all();
     host_that_always_says_so();
     host_without_values();
     none_waits();

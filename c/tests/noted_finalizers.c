@@ -115,6 +115,8 @@ uint8_t fz_machine_move_ephemeron(derrimas_finalizers *f, uint64_t word, uint64_
     return FILLED(noted("move_ephemeron" N N, word, to), answer, uint8_t, (uint8_t)V(0));
 }
 
+uint8_t fz_machine_key_marked(derrimas_finalizers *f, uint64_t key) { return (void)f, noted("key_marked" N, key); }
+
 uint8_t fz_machine_add_cleanup(derrimas_finalizers *f, uint64_t object, bool is_long, uint64_t proc, uint64_t cd, uint8_t rank, uint64_t *number)
 {
     (void)f;
@@ -127,11 +129,11 @@ uint8_t fz_machine_cancel(derrimas_finalizers *f, uint64_t number, derrimas_fina
     return FILLED(noted("cancel" N, number), old, derrimas_finalizers_old, V(0), V(1), V(0) != 0);
 }
 
-uint8_t fz_machine_begin(derrimas_finalizers *f)
+uint8_t fz_machine_begin(derrimas_finalizers *f, uint64_t from)
 {
     (void)f;
     asked_marks = false;
-    return noted("begin");
+    return from ? noted("begin" N, from) : noted("begin");
 }
 
 static derrimas_ask ask_of(uint64_t value) { return value == 9 ? DERRIMAS_ASK_MARK_VALUE : (derrimas_ask)(value % 8 + 1); }

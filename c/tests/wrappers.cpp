@@ -253,9 +253,9 @@ static string asked(finalizers &f, std::uint64_t answers)
     return pass.next(answers, &question) ? shown(question) : "ended:" + shown(pass.did());
 }
 
-static string abandoned(finalizers &f, bool by_scope)
+static string abandoned(finalizers &f, bool by_scope, std::uint64_t from = 0)
 {
-    finalizers::open_pass pass(f);
+    finalizers::open_pass pass(f, from);
     if (!by_scope)
         pass.abandon();
     return "done";
@@ -425,14 +425,17 @@ static const std::map<string, member> members = {
     {"finalizers_ephemeron", SHOWN(f.finalizers.ephemeron(LINK_KIND, a.number(1), a.number(2)))},
     {"finalizers_end_ephemeron", SHOWN(f.finalizers.end_ephemeron(a.number(0)))},
     {"finalizers_move_ephemeron", SHOWN(f.finalizers.move_ephemeron(a.number(0), a.number(1)))},
+    {"finalizers_key_marked", DONE(f.finalizers.key_marked(a.number(0)))},
     {"finalizers_add_cleanup", SHOWN(a.is("default") ? f.finalizers.add_cleanup(a.number(1), finalizers::when::long_cleanup, a.number(2), a.number(3))
                                                      : f.finalizers.add_cleanup(a.number(1), a.kind(moments), a.number(2), a.number(3),
                                                                                 static_cast<std::uint8_t>(a.number(4))))},
     {"finalizers_cancel", SHOWN(f.finalizers.cancel(a.number(0)))},
     {"finalizers_begin", [](fixture &f, const arguments &) { return abandoned(f.finalizers, true); }},
+    {"finalizers_begin_from", [](fixture &f, const arguments &a) { return abandoned(f.finalizers, true, a.number(0)); }},
     {"finalizers_abandon", [](fixture &f, const arguments &) { return abandoned(f.finalizers, false); }},
     {"finalizers_next", [](fixture &f, const arguments &a) { return asked(f.finalizers, a.number(0)); }},
     {"finalizers_pass", [](fixture &f, const arguments &a) { return pass_over(f.finalizers, a); }},
+    {"finalizers_pass_from", SHOWN(f.finalizers.pass_from(a.number(0), whole_host{{false}}))},
     {"finalizers_why", [](fixture &f, const arguments &a) { return reasoned(f.finalizers, a); }},
     {"finalizers_stuck", [](fixture &f, const arguments &a) { return stuck(f.finalizers, a); }},
     {"finalizers_queue_all", SHOWN(f.finalizers.queue_all())},
@@ -440,6 +443,7 @@ static const std::map<string, member> members = {
     {"finalizers_take", SHOWN_IN_PASS(shown(f.finalizers.take()))},
     {"finalizers_take_finished", SHOWN_IN_PASS(shown(f.finalizers.take_finished()))},
     {"finalizers_finish", SHOWN_IN_PASS((f.finalizers.finish(a.finalizers_entry(0)), string("done")))},
+    {"finalizers_next_number", SHOWN((f.finalizers.register_object(a.number(0), finalizers::kind::normal, a.number(1), a.number(2)), f.finalizers.next_number()))},
     {"finalizers_has_waiting", SHOWN((f.finalizers.queue_all(), f.finalizers.has_waiting()))},
     {"finalizers_invoke", [](fixture &f, const arguments &a) { return invoked(f.finalizers, a.is("throws")); }},
     {"finalizers_roots", [](fixture &f, const arguments &a) { return walked([&](auto visit) { f.finalizers.roots(a.kind(sorts_of_roots), visit); }); }},

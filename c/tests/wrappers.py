@@ -274,8 +274,8 @@ def in_pass(member):
     return made
 
 
-def abandoned(finalizers, by_scope):
-    with finalizers.open_pass() as questions:
+def abandoned(finalizers, by_scope, start=0):
+    with finalizers.open_pass(start) as questions:
         return 'done' if by_scope else done(questions.abandon())
 
 
@@ -373,12 +373,15 @@ MEMBERS_OF_FINALIZERS = {
     'ephemeron': lambda *arguments: shown(with_kind(OVER.ephemeron)(*arguments)),
     'end_ephemeron': lambda it, word: shown(it.end_ephemeron(word)),
     'move_ephemeron': lambda it, word, to: shown(it.move_ephemeron(word, to)),
+    'key_marked': lambda it, key: done(it.key_marked(key)),
     'add_cleanup': lambda *arguments: shown(with_kind(OVER.add_cleanup, name='when')(*arguments)),
     'cancel': lambda it, number: unregistered(it.cancel(number)),
     'begin': lambda it: abandoned(it, True),
+    'begin_from': lambda it, start: abandoned(it, True, start),
     'abandon': lambda it: abandoned(it, False),
     'next': asked,
     'pass': passed,
+    'pass_from': lambda it, start: shown(it.run_pass(Host('returns'), start)),
     'why': reasoned,
     'stuck': stuck,
     'queue_all': lambda it: shown(it.queue_all()),
@@ -386,6 +389,7 @@ MEMBERS_OF_FINALIZERS = {
     'take': in_pass(lambda it: shown(it.take())),
     'take_finished': in_pass(lambda it: shown(it.take_finished())),
     'finish': in_pass(lambda it, first: done(it.finish(over.Entry(*range(first, first + 6))))),
+    'next_number': lambda it, object, proc, cd: (it.register(object, proc, cd), shown(it.next_number()))[1],
     'has_waiting': waiting_after_all,
     'invoke': run_of_finalizers,
     'roots': lambda it, sort: walked(it.roots(sort)),

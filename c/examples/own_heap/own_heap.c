@@ -84,14 +84,22 @@ static void mark_words(own_heap *heap, const object *it, const object *other)
             mark_word(heap, it->words[n]);
 }
 
-static void mark_on(own_heap *heap)
+/* Follows the words of an object that stands in the list. NULL: there is none. */
+static object *scan_one(own_heap *heap)
 {
-    object *it;
+    object *it = heap->to_scan;
 
-    while ((it = heap->to_scan)) {
+    if (it) {
         heap->to_scan = it->next_to_scan;
         mark_words(heap, it, NULL);
     }
+    return it;
+}
+
+static void mark_on(own_heap *heap)
+{
+    while (scan_one(heap))
+        ;
 }
 
 /* ---- the answers to a pass */
@@ -134,15 +142,15 @@ static bool holder_is_marked(void *data, uint64_t word)
     return holder_of(word)->is_marked;
 }
 
-/* The word lies in an object that isn't scanned: so nothing else marks its value. */
+/* The word lies in an object that isn't scanned: so nothing else marks its value. What is marked on the way may be a key. */
 static bool mark_value(void *data, uint64_t word)
 {
     own_heap *heap = data;
-    bool is_new;
+    bool is_new = false;
 
     mark_word(heap, holder_of(word)->words[word >> 48]);
-    is_new = heap->to_scan != NULL;
-    mark_on(heap);
+    for (object *it; (it = scan_one(heap)); is_new = true)
+        (void)derrimas_finalizers_key_marked(&heap->finalizers, own_heap_number(it->words)); /* can't fail: it is open */
     return is_new;
 }
 

@@ -137,9 +137,9 @@ def library() -> ctypes.CDLL:
         "open": [POINTER(Options)], "reserve": [n, n, n], "shrink": [], "register": [n, kind, n, n, c_uint8, POINTER(n), POINTER(Old)],
         "unregister": [n, POINTER(Old)], "link": [kind, n, n, POINTER(kind)], "unlink": [kind, n, POINTER(c_bool)], "move_link": [kind, n, n, POINTER(kind)],
         "ephemeron": [kind, n, n, POINTER(kind)], "end_ephemeron": [n, POINTER(c_bool)], "move_ephemeron": [n, n, POINTER(kind)],
-        "key": [n, POINTER(kind), POINTER(n)], "ephemerons": [kind, *walk],
+        "key": [n, POINTER(kind), POINTER(n)], "ephemerons": [kind, *walk], "key_marked": [n],
         "add_cleanup": [n, kind, n, n, c_uint8, POINTER(n)], "cancel": [n, POINTER(Old)], "queue_cleanups": [POINTER(n)], "cleanups": walk,
-        "cleanup": [n, POINTER(Cleanup)], "begin": [], "next": [n, POINTER(CQuestion), POINTER(Passed)], "abandon": [], "queue_all": [POINTER(n)], "take": [POINTER(Entry)],
+        "cleanup": [n, POINTER(Cleanup)], "begin_from": [n], "next_number": [POINTER(n)], "next": [n, POINTER(CQuestion), POINTER(Passed)], "abandon": [], "queue_all": [POINTER(n)], "take": [POINTER(Entry)],
         "take_finished": [POINTER(Entry)], "finish": [POINTER(Entry)], "roots": [kind, *walk], "registrations": walk, "links": [kind, *walk],
         "registration": [n, POINTER(Registration)], "target": [kind, n, POINTER(n)], "unfinished": [n, POINTER(Entry)], "count": [POINTER(Counts)],
         "why": [n, POINTER(Paths), c_void_p, POINTER(CWhy), POINTER(n), c_size_t],
@@ -273,6 +273,10 @@ class Finalizers:
         """Moves an ephemeron from the word to the word `to`."""
         return LinkAnswer(self._answer(c_uint32, "move_ephemeron", word, to))
 
+    def key_marked(self, key: int) -> None:
+        """Tells an object that mark_value of a host has marked, so that a pass asks about the ephemerons of this key before the others: the result is the same."""
+        self._call("key_marked", key)
+
     def add_cleanup(self, object: int, proc: int, cd: int = 0, rank: int = 0, when: When = When.LONG) -> int:
         """Adds a cleanup to the object, and returns its number. Its entry comes when the object is lost, with that number and without the object."""
         return self._answer(c_uint64, "add_cleanup", object, when, proc, cd, rank)
@@ -281,17 +285,18 @@ class Finalizers:
         """Removes the cleanup with this number, and returns what it was."""
         return self._answer(Old, "cancel", number)
 
-    def open_pass(self) -> OpenPass:
-        """Opens a pass, for a `with`, which is asked question by question."""
-        return OpenPass(self)
+    def open_pass(self, start: int = 0) -> OpenPass:
+        """Opens a pass, for a `with`, which is asked question by question. It looks only at registrations and cleanups whose numbers are at least `start`: it is the
+        same pass if the objects of all others are marked."""
+        return OpenPass(self, start)
 
-    def run_pass(self, host: Any) -> Passed:
+    def run_pass(self, host: Any, start: int = 0) -> Passed:
         """A whole pass, which the methods of the host answer. Where one raises, or a hook does before the end, the pass is abandoned: reclaim nothing before
         the next one has ended. Finalizers that ask about regions refuse a host without `marks`, and those with ephemerons one without `mark_value`, as
-        BadOptions."""
+        BadOptions. With `start` it looks at registrations and cleanups from that number on."""
         if (self.handle.asks_marks and not hasattr(host, "marks")) or (not hasattr(host, "mark_value") and self._has_ephemerons()):
             raise Refused(BAD_OPTIONS)
-        with self.open_pass() as questions:
+        with self.open_pass(start) as questions:
             question = questions.next()
             while question:
                 question = questions.next(answers_of(host, question))
@@ -435,6 +440,10 @@ class Finalizers:
         """The first entry from this place in the queue on that isn't finished, or None."""
         return self._or_none(Entry, "unfinished", start)
 
+    def next_number(self) -> int:
+        """The number of the next registration or cleanup."""
+        return self._answer(c_uint64, "next_number")
+
     def counts(self) -> Counts:
         """The counts of the handle."""
         return self._answer(Counts, "count")
@@ -493,10 +502,10 @@ def guarded(raised: List[BaseException], function: Callable[..., bool]) -> Calla
 class OpenPass:
     """An open pass. Leaving its `with` before the last question abandons it: then the host reclaims nothing before its next pass has ended."""
 
-    def __init__(self, finalizers: Finalizers) -> None:
+    def __init__(self, finalizers: Finalizers, start: int = 0) -> None:
         self.finalizers, self.did = finalizers, Passed()
         self.regions = 0  # of the last question
-        finalizers._call("begin")
+        finalizers._call("begin_from", start)
         self.is_open = True
 
     def __enter__(self) -> OpenPass:

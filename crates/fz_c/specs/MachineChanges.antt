@@ -16,7 +16,8 @@ use Rattle.fz_finalizers.specs.Passed.{CleansAll}
 use Rattle.fz_finalizers.specs.States.{HasRooms, KeepsTables, links_of, room_of}
 use Rattle.fz_machine.specs.Causes.{first_of}
 use Rattle.fz_machine.specs.Going.{HasRoomForMore}
-use Rattle.fz_machine.specs.Machines.{KeepsPass, Machine}
+use Rattle.fz_machine.specs.Machines.{IsTold, KeepsPass, Machine}
+use Rattle.fz_c.specs.declared.machine.codes.TheConstants.{OK}
 use Rattle.fz_c.specs.declared.old.Old.{Old}
 use Rattle.fz_c.specs.declared.machine.registering.Registered.{Registered}
 use Rattle.fz_c.specs.MachineCodes.{Answers, AnswersOrLacks}
@@ -92,6 +93,10 @@ MovesEphemeron word to code old told m n =
     Answers (first_of m.phase (move_causes to)) code
     (Follows m.finalizers.state (MoveEphemeron word to) n.finalizers.state × (told ≡ move_number (keyed.move_answer m.finalizers.ephemerons word to)))
     (Stays m n × (told ≡ old))
+
+-- it is never refused
+abbrev pub TellsKey : ℕ → ℕ → Machine → Machine → Type 0
+TellsKey key code m n = (code ≡ OK) × IsTold key m n
 
 -- there is no room in the table or in the list
 abbrev pub LacksToAdd : Machine → Type 0

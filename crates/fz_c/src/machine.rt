@@ -25,7 +25,10 @@ pub use entries::{
     HostEntry, fz_machine_finish, fz_machine_take, fz_machine_take_finished, fz_machine_unfinished,
 };
 pub use handle::MachineHandle;
-pub use keying::{fz_machine_end_ephemeron, fz_machine_ephemeron, fz_machine_move_ephemeron};
+pub use keying::{
+    fz_machine_end_ephemeron, fz_machine_ephemeron, fz_machine_key_marked,
+    fz_machine_move_ephemeron,
+};
 pub use linking::{fz_machine_link, fz_machine_move_link, fz_machine_unlink};
 pub use opening::{fz_machine_destroy, fz_machine_open, fz_machine_reserve, fz_machine_shrink};
 pub use passing::{

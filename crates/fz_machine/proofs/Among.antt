@@ -1,5 +1,5 @@
 -- Items of a list: each of them, one of them, and in order.
-use Rattle.std.proofs.Common.{◌≤◌, ◌⊎◌, ◌++◌, ◌∷◌, [], ℕ, List, zero, suc, map, All, Contains, refl, sym, subst, inl, inr, arith}
+use Rattle.std.proofs.Common.{◌≤◌, ◌⊎◌, ◌++◌, ◌∷◌, [], ◌≡◌, ℕ, Bool, true, false, cond, filter, List, zero, suc, map, All, Contains, refl, sym, subst, inl, inr, ⊎_elim, arith}
 use Rattle.std.proofs.lemmas.List.Elements.{All-head, All-tail, All-nil, All-cons}
 use Rattle.std.proofs.lemmas.List.Sorted.{All-permutation, Contains-permutation}
 use Rattle.std.specs.List.Sorted.{IsPermutation, IsNonDecreasingBy}
@@ -37,6 +37,24 @@ module _ {X : Type 0} where
     each_without : (xs : List X) (x : X) (ys : List X) → Each P (xs ++ x ∷ ys) → Each P (xs ++ ys)
     each_without [] x ys h = h.1
     each_without (y ∷ xs) x ys h = (h.0, each_without xs x ys h.1)
+
+    pub each_filter : (p : X → Bool) (xs : List X) → Each P xs → Each P (filter p xs)
+    each_filter p [] h = tt
+    each_filter p (x ∷ xs) h = by (p x) (each_filter p xs h.1)
+      where
+        by : (b : Bool) → Each P (filter p xs) → Each P (cond b (x ∷ filter p xs) (filter p xs))
+        by true rest = (h.0, rest)
+        by false rest = rest
+
+    -- one that passes a test stays
+    pub one_filter : (p : X → Bool) → ((x : X) → P x → p x ≡ true) → (xs : List X) → OneOf P xs → OneOf P (filter p xs)
+    one_filter p passes [] h = absurd h
+    one_filter p passes (x ∷ xs) (inl h) = subst (λ b. OneOf P (cond b (x ∷ filter p xs) (filter p xs))) (sym (passes x h)) (inl h)
+    one_filter p passes (x ∷ xs) (inr h) = by (p x) (one_filter p passes xs h)
+      where
+        by : (b : Bool) → OneOf P (filter p xs) → OneOf P (cond b (x ∷ filter p xs) (filter p xs))
+        by true rest = inr rest
+        by false rest = rest
 
     pub one_left : (xs ys : List X) → OneOf P xs → OneOf P (xs ++ ys)
     one_left [] ys h = absurd h
@@ -100,6 +118,15 @@ module _ {X : Type 0} where
   pub each_append : (P : X → Type 0) (xs ys : List X) → Each P xs → Each P ys → Each P (xs ++ ys)
   each_append P [] ys h k = k
   each_append P (x ∷ xs) ys h k = (h.0, each_append P xs ys h.1 k)
+
+  pub each_parts : (P : X → Type 0) (xs ys : List X) → Each P (xs ++ ys) → Each P xs × Each P ys
+  each_parts P [] ys h = (tt, h)
+  each_parts P (x ∷ xs) ys h = let rest = each_parts P xs ys h.1 in ((h.0, rest.0), rest.1)
+
+  pub one_part : (P : X → Type 0) (xs ys : List X) → OneOf P (xs ++ ys) → OneOf P xs ⊎ OneOf P ys
+  one_part P [] ys h = inr h
+  one_part P (x ∷ xs) ys (inl p) = inl (inl p)
+  one_part P (x ∷ xs) ys (inr h) = ⊎_elim (λ k. inl (inr k)) inr (one_part P xs ys h)
 
   pub one_right : (P : X → Type 0) (xs ys : List X) → OneOf P ys → OneOf P (xs ++ ys)
   one_right P [] ys h = h

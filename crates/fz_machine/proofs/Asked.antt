@@ -53,11 +53,11 @@ module _ (s : State) (walk : Walk) (regions : Regions) (phase : Phase) (order : 
       by true is = absurd (let some = question.some in let within = question.within in let nothing = ap length (order.by_regions (ap Some at) is) in omega (arith, some, within, nothing))
       by false is = is
 
-  pub asks_items : (f : View) (open_phase : Option Phase) (before count : ℕ) (on : Bool) (new : Regions) (q : Question) → f.state ≡ s → new ≡ record regions { asked = count } → IsQuestion phase walk.left q
-      → AsksItems (record { finalizers = f; walk = walk_by f.state walk new; phase = open_phase; asked = q.count; before = before; regions = take new.asked new.left; by_regions = on; noted = new.complete; tabled = length new.order; remaining = length new.left }) phase q
-  asks_items f open_phase before count on new q same new_is question =
+  pub asks_items : (f : View) (open_phase : Option Phase) (before from count : ℕ) (on : Bool) (new : Regions) (q : Question) → f.state ≡ s → new ≡ record regions { asked = count } → IsQuestion phase walk.left q
+      → AsksItems (record { finalizers = f; walk = walk_by f.state walk new; phase = open_phase; asked = q.count; before = before; from = from; regions = take new.asked new.left; by_regions = on; noted = new.complete; tabled = length new.order; remaining = length new.left }) phase q
+  asks_items f open_phase before from count on new q same new_is question =
       subst
-      (λ (r : Regions). AsksItems (record { finalizers = f; walk = walk_by f.state walk r; phase = open_phase; asked = q.count; before = before; regions = take r.asked r.left; by_regions = on; noted = r.complete; tabled = length r.order; remaining = length r.left }) phase q)
+      (λ (r : Regions). AsksItems (record { finalizers = f; walk = walk_by f.state walk r; phase = open_phase; asked = q.count; before = before; from = from; regions = take r.asked r.left; by_regions = on; noted = r.complete; tabled = length r.order; remaining = length r.left }) phase q)
       (sym new_is)
       (record {
         others = unnoted q question;
@@ -101,11 +101,11 @@ module _ (s : State) (walk : Walk) (regions : Regions) (phase : Phase) (order : 
   )
 
   -- it is a question about regions
-  pub asks_regions : (f : View) (open_phase : Option Phase) (before : ℕ) (on : Bool) (new : Regions) (about : List ℕ) → f.state ≡ s → new ≡ record regions { asked = count } → take count about ≡ keys_of (take count regions.left) → All (λ (r : ℕ × ℕ). place_in r.0 ≡ 0) (take count regions.left)
-      → AsksRegions (record { finalizers = f; walk = walk_by f.state walk new; phase = open_phase; asked = 0; before = before; regions = take new.asked new.left; by_regions = on; noted = new.complete; tabled = length new.order; remaining = length new.left }) phase (record { ask = Marks; about = about; count = count })
-  asks_regions f open_phase before on new about same new_is written begin =
+  pub asks_regions : (f : View) (open_phase : Option Phase) (before from : ℕ) (on : Bool) (new : Regions) (about : List ℕ) → f.state ≡ s → new ≡ record regions { asked = count } → take count about ≡ keys_of (take count regions.left) → All (λ (r : ℕ × ℕ). place_in r.0 ≡ 0) (take count regions.left)
+      → AsksRegions (record { finalizers = f; walk = walk_by f.state walk new; phase = open_phase; asked = 0; before = before; from = from; regions = take new.asked new.left; by_regions = on; noted = new.complete; tabled = length new.order; remaining = length new.left }) phase (record { ask = Marks; about = about; count = count })
+  asks_regions f open_phase before from on new about same new_is written begin =
       subst
-      (λ (r : Regions). AsksRegions (record { finalizers = f; walk = walk_by f.state walk r; phase = open_phase; asked = 0; before = before; regions = take r.asked r.left; by_regions = on; noted = r.complete; tabled = length r.order; remaining = length r.left }) phase (record { ask = Marks; about = about; count = count }))
+      (λ (r : Regions). AsksRegions (record { finalizers = f; walk = walk_by f.state walk r; phase = open_phase; asked = 0; before = before; from = from; regions = take r.asked r.left; by_regions = on; noted = r.complete; tabled = length r.order; remaining = length r.left }) phase (record { ask = Marks; about = about; count = count }))
       (sym new_is)
       (record {
         objects = objects.0;

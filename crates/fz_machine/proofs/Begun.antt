@@ -1,6 +1,6 @@
 -- What a host sees to before a pass, with the words of dead short links and of dead short ephemerons cleared.
-use Rattle.std.proofs.Common.{◌≡◌, ◌≢◌, ◌<◌, ◌^◌, ◌∙◌, [], ℕ, Bool, true, false, Some, None, refl, ap, inl, IsTrue, Option}
-use Rattle.std.proofs.lemmas.Bool.{both_ways}
+use Rattle.std.proofs.Common.{◌≡◌, ◌≢◌, ◌<◌, ◌≤◌, ⊎_elim, ◌^◌, ◌∙◌, [], ℕ, Bool, true, false, Some, None, refl, ap, inl, IsTrue, Option}
+use Rattle.std.proofs.lemmas.Bool.{both_ways, cases_lt}
 use Rattle.std.specs.FinMap.{get}
 use Rattle.std.specs.FinSet.{contains}
 use Rattle.fz_model.specs.declared.answers.Pick.{Pick}
@@ -21,18 +21,31 @@ use Rattle.fz_pass.proofs.Led.{led_are_marked, led_still}
 use Rattle.fz_pass.proofs.Passed.{registered_still, targets_still, closed_still}
 use Rattle.fz_pass.proofs.Picked.{all_map, was_registered, without_other}
 use Rattle.fz_pass.proofs.Tiers.{ready_flag}
+use Rattle.fz_finalizers.specs.declared.cleanups.Attached.{Attached}
 use Rattle.fz_finalizers.specs.Promises.{AreSingle}
 use Rattle.fz_finalizers.specs.States.{State, AreFlags}
 use Rattle.fz_finalizers.proofs.Flags.{normal_of}
 use Rattle.fz_machine.specs.Graph.{Graph, MayBegin}
+use Rattle.fz_machine.specs.Phases.{Scope}
 use Rattle.fz_machine.proofs.Phased.{clear, cleared_links, Leading, Picked}
 use Rattle.fz_machine.proofs.Stated.{tabled}
+
+-- all that a pass doesn't look at is marked
+pub record AreSeen (scope : Scope) (s : State) (g : Graph) : Type 0 where
+  pub registered : (object : ℕ) (r : Registration) → get s.registrations object ≡ Some r → r.number < scope.registrations → IsTrue (g.marked object)
+  pub attached : (number : ℕ) (c : Attached) → get s.cleanups number ≡ Some c → number < scope.cleanups → IsTrue (g.marked c.object)
+
+-- what is unmarked comes no earlier
+no_earlier : (number from : ℕ) (on : Bool) → (number < from → IsTrue on) → on ≡ false → from ≤ number
+no_earlier number from on marked off = ⊎_elim (λ (lt : number < from). absurd (both_ways on off (marked lt))) (λ (ge : from ≤ number). ge) (cases_lt number from)
 
 pub record HasBegun (word_of : ℕ → Option ℕ) (b : State) (before : Graph) : Type 0 where
   pub may : MayBegin word_of b before
   pub open may use *
   pub flags : AreFlags b.registrations b.late
   pub single : AreSingle b
+  pub scope : Scope
+  pub seen : AreSeen scope b before
 
 module _ (E : Type 0) (word_of : ℕ → Option ℕ) (value : Map Object → ℕ → Option ℕ) (b : State) (before : Graph) (begin : HasBegun word_of b before) where
   abbrev begun : Map Object
@@ -40,6 +53,13 @@ module _ (E : Type 0) (word_of : ℕ → Option ℕ) (value : Map Object → ℕ
 
   abbrev keys : Map ℕ
   keys = placed word_of b.ephemerons.short
+
+  -- what is unmarked is looked at
+  pub young_registered : (object : ℕ) (r : Registration) → get b.registrations object ≡ Some r → before.marked object ≡ false → begin.scope.registrations ≤ r.number
+  young_registered object r here off = no_earlier r.number begin.scope.registrations (before.marked object) (begin.seen.registered object r here) off
+
+  pub young_attached : (marked : ℕ → Bool) → ((a : ℕ) → IsTrue (before.marked a) → IsTrue (marked a)) → (number : ℕ) (c : Attached) → get b.cleanups number ≡ Some c → marked c.object ≡ false → begin.scope.cleanups ≤ number
+  young_attached marked more number c here off = no_earlier number begin.scope.cleanups (marked c.object) (λ lt. more c.object (begin.seen.attached number c here lt)) off
 
   pub registered : AreRegistered (clear E word_of value b before) b.registrations
   registered = registered_still begun keys before.marked b.registrations (registered_still before.objects (placed word_of b.short) before.marked b.registrations begin.registered)

@@ -1,5 +1,5 @@
 -- A pass is made of calls.
-use Rattle.std.proofs.Common.{ℕ, Bool, true, false, cond, refl, sym, subst, inl, inr}
+use Rattle.std.proofs.Common.{ℕ, Bool, true, false, cond, refl, sym, subst}
 use Rattle.std.specs.FinMap.{remove}
 use Rattle.fz_model.specs.declared.kinds.LinkKind.{LinkKind}
 use Rattle.fz_model.specs.declared.kinds.LinkKind.TheVariants.{Short, Long}
@@ -11,7 +11,8 @@ use Rattle.fz_machine.specs.declared.item.Item.{Item}
 use Rattle.fz_machine.specs.declared.phase.Phase.{Phase}
 use Rattle.fz_machine.specs.declared.phase.Phase.TheVariants.{Keys, KeysAgain, Holders, Values, ShortCleanups, ShortTargets, ShortWords, ShortKeys, ShortKeyWords, Objects, Children, Again, Picks, LateAgain, LatePicks, LongTargets, LongWords, LongKeys, LongKeyWords, ShortHolders, LongHolders, ShortKeyHolders, LongKeyHolders, LongCleanups}
 use Rattle.fz_machine.specs.Going.{going}
-use Rattle.fz_machine.specs.Heard.{IsCalled, PassesAreCalls}
+use Rattle.fz_machine.specs.Heard.{Abandons, Answered, IsCalled, Opens, PassesAreCalls, Tells}
+use Rattle.fz_machine.specs.Machines.{Machine}
 use Rattle.fz_machine.specs.Phases.{after, without_key}
 use Rattle.fz_machine.specs.Steps.{steps}
 use Rattle.fz_machine.proofs.Throughout.{goes_keep, steps_keep}
@@ -62,11 +63,12 @@ module _ (past : Past) (s : State) (c : IsCalled past s) where
   called LongCleanups item answer = cases answer s (queued_cleanup s item.word) c (cleaned item.word)
 
 pub passes_are_calls : PassesAreCalls
-passes_are_calls old new past reached (inl begun) = record { later = past; reached = Then Begin reached begun.finalizers; taken = refl; finished = refl }
-passes_are_calls old new past reached (inr (inl (answers, next, goes))) =
+passes_are_calls old new past reached (Opens from begun) = record { later = past; reached = Then Begin reached begun.finalizers; taken = refl; finished = refl }
+passes_are_calls old new past reached (Answered answers next goes) =
     let kept = λ (phase : Phase) (item : Item) (answer : Bool) (s : State) (c : IsCalled past s). called past s c phase item answer in
     let start : IsCalled past old.finalizers.state = record { later = past; reached = reached; taken = refl; finished = refl } in
     goes_keep (IsCalled past) kept goes.phase (steps goes.phase answers (going old.finalizers old.walk)) new.phase (going new.finalizers new.walk) goes.goes
     (steps_keep (IsCalled past) kept goes.phase answers (going old.finalizers old.walk) start)
-passes_are_calls old new past reached (inr (inr abandoned)) =
+passes_are_calls old new past reached (Tells key tells) = record { later = past; reached = subst (λ (m : Machine). IsReached m.finalizers.state past) (sym tells.same) reached; taken = refl; finished = refl }
+passes_are_calls old new past reached (Abandons abandoned) =
     record { later = past; reached = subst (λ (v : View). IsReached v.state past) (sym abandoned.same) reached; taken = refl; finished = refl }

@@ -1,14 +1,16 @@
 -- A round over the cleanups of a moment: those whose objects aren't marked are queued.
-use Rattle.std.proofs.Common.{◌≡◌, ◌≢◌, ◌++◌, ◌∷◌, ◌∙◌, [], ℕ, Bool, true, false, cond, List, length, map, drop, slice_get, Option, Some, All, not, sym, ap, subst, append_assoc, append-nil, arith}
+use Rattle.std.proofs.Common.{◌≡◌, ◌≢◌, ◌≤◌, IsTrue, None, get_or, nat_le, refl, ◌++◌, ◌∷◌, ◌∙◌, [], ℕ, Bool, true, false, cond, List, length, map, drop, slice_get, Option, Some, All, not, sym, ap, subst, append_assoc, append-nil, arith}
+use Rattle.std.proofs.lemmas.Bool.{and_parts, le-leb, true≢false}
 use Rattle.std.proofs.lemmas.List.{map-append}
 use Rattle.std.proofs.lemmas.List.Elements.{All-filter}
 use Rattle.std.proofs.lemmas.Option.{same_Some}
-use Rattle.std.specs.FinMap.{get}
+use Rattle.std.specs.FinMap.{get, retain_keys}
 use Rattle.std.specs.Option.{option_map_or}
 use Rattle.fz_model.specs.declared.answers.Pick.{Pick}
 use Rattle.fz_model.specs.declared.kinds.LinkKind.{LinkKind}
 use Rattle.fz_model.specs.Pass.{entries_of}
 use Rattle.fz_model.specs.State.{Map, Object}
+use Rattle.fz_model.proofs.Maps.{get-retain, retained_back}
 use Rattle.fz_finalizers.specs.declared.cleanups.Attached.{Attached}
 use Rattle.fz_finalizers.specs.Cleanups.{AreDue, is_due, is_when, pick_of, without}
 use Rattle.fz_finalizers.specs.Follows.{Cleans, queued_attached, queued_cleanup}
@@ -36,54 +38,78 @@ module _ (b : State) where
       ∙ (λ i. record b { queue = queue i; cleanups = sym (without-push b.cleanups due e) i })
 
 module _ (E : Type 0) (word_of : ℕ → Option ℕ) (value : Map Object → ℕ → Option ℕ) (when : LinkKind) (b : State) (objects : Map Object) (marked : ℕ → Bool) where
-  abbrev AreAll : List (ℕ × Attached) → Type 0
-  AreAll = AreDue (λ (c : Attached). is_when when c.cleanup.when) b.cleanups
+  abbrev AreAll : ℕ → List (ℕ × Attached) → Type 0
+  AreAll from = AreDue (λ (c : Attached). is_when when c.cleanup.when) (retain_keys b.cleanups (nat_le from))
+
+  -- those that aren't marked come no earlier
+  abbrev AreYoung : ℕ → Type 0
+  AreYoung from = (number : ℕ) (c : Attached) → get b.cleanups number ≡ Some c → marked c.object ≡ false → from ≤ number
 
   -- those that were asked about, and those that remain
   pub record Cleaning (s : State) (left : List Item) (h : Graph) : Type 0 where
+    pub from : ℕ
+    pub young : AreYoung from
     pub past : List (ℕ × Attached)
     pub rest : List (ℕ × Attached)
-    pub are : AreDue (λ (c : Attached). is_when when c.cleanup.when) b.cleanups (past ++ rest)
+    pub are : AreAll from (past ++ rest)
     pub left_are : left ≡ map of_cleanup rest
     pub state : s ≡ after_due b (due_in marked past)
     pub objects_are : h.objects ≡ objects
     pub marks_are : h.marked ≡ marked
 
-  pub cleaning_begins : (s : State) (items : List Item) (h : Graph) → s ≡ b → h.objects ≡ objects → h.marked ≡ marked → AreCleanups when b.cleanups items → Cleaning s items h
-  cleaning_begins s items h state objects_are marks_are (cs, are, is) =
-      record { past = []; rest = cs; are = are; left_are = is; state = state ∙ sym (none_due b); objects_are = objects_are; marks_are = marks_are }
+  pub cleaning_begins : (from : ℕ) (s : State) (items : List Item) (h : Graph) → AreYoung from → s ≡ b → h.objects ≡ objects → h.marked ≡ marked → AreCleanups from when b.cleanups items → Cleaning s items h
+  cleaning_begins from s items h young state objects_are marks_are (cs, are, is) =
+      record { from = from; young = young; past = []; rest = cs; are = are; left_are = is; state = state ∙ sym (none_due b); objects_are = objects_are; marks_are = marks_are }
 
   module _ (s : State) (left : List Item) (item : Item) (h new : Graph) (p : Cleaning s (item ∷ left) h) where
-    next_state : (e : ℕ × Attached) (es : List (ℕ × Attached)) → AreAll (p.past ++ e ∷ es) → item ≡ of_cleanup e → (on : Bool) → on ≡ marked e.1.object → cond on s (queued_cleanup s item.word) ≡ after_due b (due_in marked (p.past ++ e ∷ []))
+    next_state : (e : ℕ × Attached) (es : List (ℕ × Attached)) → AreAll p.from (p.past ++ e ∷ es) → item ≡ of_cleanup e → (on : Bool) → on ≡ marked e.1.object → cond on s (queued_cleanup s item.word) ≡ after_due b (due_in marked (p.past ++ e ∷ []))
     next_state e es are is true on = p.state ∙ ap (after_due b) (sym (due_more marked p.past e true on))
     next_state e es are is false off =
-        let others = others_before (λ (c : Attached). is_when when c.cleanup.when) b.cleanups p.past e es are in
+        let others = others_before (λ (c : Attached). is_when when c.cleanup.when) (retain_keys b.cleanups (nat_le p.from)) p.past e es are in
         (λ i. queued_cleanup (p.state i) (is i).word)
-        ∙ one_due b (due_in marked p.past) e others.0 (All-filter (λ (x : ℕ × Attached). not (marked x.1.object)) (λ (y : ℕ × Attached). y.0 ≢ e.0) p.past others.1)
+        ∙ one_due b (due_in marked p.past) e (retained_back b.cleanups (nat_le p.from) e.0 e.1 others.0).1 (All-filter (λ (x : ℕ × Attached). not (marked x.1.object)) (λ (y : ℕ × Attached). y.0 ≢ e.0) p.past others.1)
         ∙ ap (after_due b) (sym (due_more marked p.past e false off))
 
     pub cleaning_on : (answer : Bool) → IsHonest E word_of value (Some IsMarked) item.object h answer new → Cleaning (cond answer s (queued_cleanup s item.word)) left new
     cleaning_on answer honest = by p.rest p.are p.left_are
       where
-        by : (rest : List (ℕ × Attached)) → AreAll (p.past ++ rest) → item ∷ left ≡ map of_cleanup rest → Cleaning (cond answer s (queued_cleanup s item.word)) left new
+        by : (rest : List (ℕ × Attached)) → AreAll p.from (p.past ++ rest) → item ∷ left ≡ map of_cleanup rest → Cleaning (cond answer s (queued_cleanup s item.word)) left new
         by [] are is = absurd (omega (arith, ap length is))
         by (e ∷ es) are is =
             let told = honest tt in
             let first : item ≡ of_cleanup e = same_Some item (of_cleanup e) (ap (λ xs. slice_get xs 0) is) in
             record {
+              from = p.from;
+              young = p.young;
               past = p.past ++ e ∷ [];
               rest = es;
-              are = subst AreAll (sym (append_assoc p.past (e ∷ []) es)) are;
+              are = subst (AreAll p.from) (sym (append_assoc p.past (e ∷ []) es)) are;
               left_are = ap (drop 1) is;
               state = next_state e es are first answer (told.0 ∙ (λ i. p.marks_are i (first i).object));
               objects_are = ap (λ (x : Graph). x.objects) told.1 ∙ p.objects_are;
               marks_are = ap (λ (x : Graph). x.marked) told.1 ∙ p.marks_are;
             }
 
+  -- all that are due come no earlier
+  all_due : (from : ℕ) → AreYoung from → (cs : List (ℕ × Attached)) → AreAll from cs → AreDue (is_due when marked) b.cleanups (due_in marked cs)
+  all_due from young cs are =
+      let due = are_due when marked (retain_keys b.cleanups (nat_le from)) cs are in
+      record {
+        each = λ k d within. let one = due.each k d within in ((retained_back b.cleanups (nat_le from) (get_or (due_in marked cs) k d).0 (get_or (due_in marked cs) k d).1 one.0).1, one.1);
+        whole = λ number c here on.
+            let off = is_not (marked c.object) (and_parts (is_when when c.cleanup.when) (not (marked c.object)) on).1 in
+            due.whole number c (get-retain b.cleanups (nat_le from) number ∙ ap (λ t. cond t (get b.cleanups number) None) (le-leb from number (young number c here off)) ∙ here) on;
+        ordered = due.ordered;
+      }
+    where
+      is_not : (b : Bool) → IsTrue (not b) → b ≡ false
+      is_not false on = refl
+      is_not true on = absurd (true≢false (sym on))
+
   -- all that are due are queued
   pub cleaning_all : (s : State) (h : Graph) → Cleaning s [] h → Cleans b.passes (is_due when marked) b s
   cleaning_all s h p = by p.rest p.are p.left_are
     where
-      by : (rest : List (ℕ × Attached)) → AreAll (p.past ++ rest) → [] ≡ map of_cleanup rest → Cleans b.passes (is_due when marked) b s
-      by [] are is = (due_in marked p.past, are_due when marked b.cleanups p.past (subst AreAll (append-nil p.past) are), p.state)
+      by : (rest : List (ℕ × Attached)) → AreAll p.from (p.past ++ rest) → [] ≡ map of_cleanup rest → Cleans b.passes (is_due when marked) b s
+      by [] are is = (due_in marked p.past, all_due p.from p.young p.past (subst (AreAll p.from) (append-nil p.past) are), p.state)
       by (e ∷ es) are is = absurd (omega (arith, ap length is))

@@ -1,5 +1,5 @@
 -- A pass goes through its phases, and ends.
-use Rattle.std.proofs.Common.{◌≡◌, ◌<◌, ◌+◌, ℕ, Bool, true, false, true≢false, IsTrue, List, [], ◌∷◌, drop, slice_get, is_some, Option, Some, None, refl, sym, ap, subst, ◌∙◌, arith}
+use Rattle.std.proofs.Common.{◌≡◌, ◌<◌, ◌+◌, ◌*◌, ℕ, Bool, true, false, true≢false, IsTrue, List, [], ◌∷◌, drop, slice_get, is_some, Option, Some, None, refl, sym, ap, subst, ◌∙◌, arith}
 use Rattle.std.proofs.lemmas.Option.{none-some, same_Some}
 use Rattle.fz_machine.specs.declared.phase.Moment.{Moment}
 use Rattle.fz_machine.specs.declared.phase.Moment.TheVariants.{First, Led, Picked, Last}
@@ -7,7 +7,8 @@ use Rattle.fz_machine.specs.declared.phase.Phase.{Phase}
 use Rattle.fz_machine.specs.declared.phase.Phase.TheVariants.{Keys, KeysAgain, Holders, Values, ShortCleanups, ShortTargets, ShortWords, ShortKeys, ShortKeyWords, Objects, Children, Again, Picks, LateAgain, LatePicks, LongTargets, LongWords, LongKeys, LongKeyWords, ShortHolders, LongHolders, ShortKeyHolders, LongKeyHolders, LongCleanups}
 use Rattle.fz_machine.specs.declared.item.Item.{Item}
 use Rattle.fz_machine.specs.Going.{follows_settling}
-use Rattle.fz_machine.specs.Phases.{behind, is_objects, next_phase, settles}
+use Rattle.fz_machine.specs.Off.{PutOff, looking, looks_again}
+use Rattle.fz_machine.specs.Phases.{Scope, behind, is_objects, next_phase, off_in, settles}
 use Rattle.fz_machine.specs.Steps.{Going, skip, skipped, Begins, GoesOn, Asks, Turns, Ends}
 
 -- how many phases lie behind the marks that are made whole at a moment
@@ -17,73 +18,97 @@ behind_left Led = 20
 behind_left Picked = 14
 behind_left Last = 8
 
--- how many phases follow at most without a question, given the items that one has kept
-abbrev pub phases_left : Phase → List Item → ℕ
-phases_left (Keys moment) kept = behind_left moment + 3
-phases_left (KeysAgain moment) kept = behind_left moment + 3
-phases_left (Holders moment) kept = behind_left moment + 2
-phases_left (Values moment) [] = behind_left moment + 1
-phases_left (Values moment) (item ∷ kept) = behind_left moment + 4
-phases_left ShortCleanups kept = 31
-phases_left ShortTargets kept = 30
-phases_left ShortWords kept = 29
-phases_left ShortKeys kept = 28
-phases_left ShortKeyWords kept = 27
-phases_left Objects kept = 26
-phases_left Children kept = 25
-phases_left Again kept = 20
-phases_left Picks kept = 19
-phases_left LateAgain kept = 14
-phases_left LatePicks kept = 13
-phases_left LongTargets kept = 8
-phases_left LongWords kept = 7
-phases_left LongKeys kept = 6
-phases_left LongKeyWords kept = 5
-phases_left ShortHolders kept = 4
-phases_left LongHolders kept = 3
-phases_left ShortKeyHolders kept = 2
-phases_left LongKeyHolders kept = 1
-phases_left LongCleanups kept = 0
+-- how many rounds over what is put off follow at most without a question: one over those that were told, and one over all if a value may have been marked
+abbrev rounds_by : Bool → List Item → ℕ
+rounds_by false [] = 0
+rounds_by true [] = 1
+rounds_by false (item ∷ told) = 1
+rounds_by true (item ∷ told) = 2
 
-last_behind : (moment : Moment) → phases_left (behind moment) [] < behind_left moment + 1
-last_behind First = omega arith
-last_behind Led = omega arith
-last_behind Picked = omega arith
-last_behind Last = omega arith
+abbrev rounds_left : PutOff → ℕ
+rounds_left off = rounds_by off.again off.told
+
+-- so a round begins with one fewer
+fewer_rounds : (off : PutOff) → looks_again off ≡ true → rounds_left (looking off) + 1 ≡ rounds_left off
+fewer_rounds off on = by off.told on
+  where
+    with_told : List Item → PutOff
+    with_told told = record off { told = told }
+
+    by : (told : List Item) → looks_again (with_told told) ≡ true → rounds_left (looking (with_told told)) + 1 ≡ rounds_by off.again told
+    by [] again = subst (λ b. 0 + 1 ≡ rounds_by b []) (sym again) refl
+    by (item ∷ told) some = one_less off.again
+      where
+        one_less : (b : Bool) → rounds_by b [] + 1 ≡ rounds_by b (item ∷ told)
+        one_less false = refl
+        one_less true = refl
+
+-- how many phases follow at most without a question, given what is put off
+abbrev pub phases_left : Phase → PutOff → ℕ
+phases_left (Keys moment) off = behind_left moment + 3 + 3 * rounds_left off
+phases_left (KeysAgain moment) off = behind_left moment + 3 + 3 * rounds_left off
+phases_left (Holders moment) off = behind_left moment + 2 + 3 * rounds_left off
+phases_left (Values moment) off = behind_left moment + 1 + 3 * rounds_left off
+phases_left ShortCleanups off = 31
+phases_left ShortTargets off = 30
+phases_left ShortWords off = 29
+phases_left ShortKeys off = 28
+phases_left ShortKeyWords off = 27
+phases_left Objects off = 26
+phases_left Children off = 25
+phases_left Again off = 20
+phases_left Picks off = 19
+phases_left LateAgain off = 14
+phases_left LatePicks off = 13
+phases_left LongTargets off = 8
+phases_left LongWords off = 7
+phases_left LongKeys off = 6
+phases_left LongKeyWords off = 5
+phases_left ShortHolders off = 4
+phases_left LongHolders off = 3
+phases_left ShortKeyHolders off = 2
+phases_left LongKeyHolders off = 1
+phases_left LongCleanups off = 0
+
+last_behind : (moment : Moment) (off : PutOff) → phases_left (behind moment) (off_in (behind moment) off) < behind_left moment + 1
+last_behind First off = omega arith
+last_behind Led off = omega arith
+last_behind Picked off = omega arith
+last_behind Last off = omega arith
 
 -- each phase has fewer behind it than the one before
-pub fewer_left : (phase next : Phase) (kept : List Item) → next_phase phase kept ≡ Some next → phases_left next [] < phases_left phase kept
-fewer_left phase next kept is = by phase kept is
+pub fewer_left : (phase next : Phase) (off : PutOff) → next_phase phase (looks_again off) ≡ Some next → phases_left next (off_in next off) < phases_left phase off
+fewer_left phase next off is = by phase (looks_again off) refl is
   where
-    to : (p q : Phase) (kept : List Item) → Some q ≡ Some next → phases_left q [] < phases_left p kept → phases_left next [] < phases_left p kept
-    to p q kept is lt = let same = ap (λ (x : Phase). phases_left x []) (same_Some q next is) in omega (arith, same, lt)
+    to : (p q : Phase) → Some q ≡ Some next → phases_left q (off_in q off) < phases_left p off → phases_left next (off_in next off) < phases_left p off
+    to p q same lt = let there = ap (λ (x : Phase). phases_left x (off_in x off)) (same_Some q next same) in omega (arith, there, lt)
 
-    by : (p : Phase) (kept : List Item) → next_phase p kept ≡ Some next → phases_left next [] < phases_left p kept
-    by (Keys moment) kept is = to (Keys moment) (Holders moment) kept is (omega arith)
-    by (KeysAgain moment) kept is = to (KeysAgain moment) (Holders moment) kept is (omega arith)
-    by (Holders moment) kept is = to (Holders moment) (Values moment) kept is (omega arith)
-    by (Values moment) [] is = to (Values moment) (behind moment) [] is (last_behind moment)
-    by (Values moment) (item ∷ kept) is = to (Values moment) (KeysAgain moment) (item ∷ kept) is (omega arith)
-    by ShortCleanups kept is = to ShortCleanups ShortTargets kept is (omega arith)
-    by ShortTargets kept is = to ShortTargets ShortWords kept is (omega arith)
-    by ShortWords kept is = to ShortWords ShortKeys kept is (omega arith)
-    by ShortKeys kept is = to ShortKeys ShortKeyWords kept is (omega arith)
-    by ShortKeyWords kept is = to ShortKeyWords Objects kept is (omega arith)
-    by Objects kept is = to Objects Children kept is (omega arith)
-    by Children kept is = to Children (Keys Led) kept is (omega arith)
-    by Again kept is = to Again Picks kept is (omega arith)
-    by Picks kept is = to Picks (Keys Picked) kept is (omega arith)
-    by LateAgain kept is = to LateAgain LatePicks kept is (omega arith)
-    by LatePicks kept is = to LatePicks (Keys Last) kept is (omega arith)
-    by LongTargets kept is = to LongTargets LongWords kept is (omega arith)
-    by LongWords kept is = to LongWords LongKeys kept is (omega arith)
-    by LongKeys kept is = to LongKeys LongKeyWords kept is (omega arith)
-    by LongKeyWords kept is = to LongKeyWords ShortHolders kept is (omega arith)
-    by ShortHolders kept is = to ShortHolders LongHolders kept is (omega arith)
-    by LongHolders kept is = to LongHolders ShortKeyHolders kept is (omega arith)
-    by ShortKeyHolders kept is = to ShortKeyHolders LongKeyHolders kept is (omega arith)
-    by LongKeyHolders kept is = to LongKeyHolders LongCleanups kept is (omega arith)
-    by LongCleanups kept is = absurd (none-some next is)
+    by : (p : Phase) (more : Bool) → looks_again off ≡ more → next_phase p more ≡ Some next → phases_left next (off_in next off) < phases_left p off
+    by (Keys moment) more on same = to (Keys moment) (Holders moment) same (omega arith)
+    by (KeysAgain moment) more on same = to (KeysAgain moment) (Holders moment) same (omega arith)
+    by (Holders moment) more on same = to (Holders moment) (Values moment) same (omega arith)
+    by (Values moment) false on same = to (Values moment) (behind moment) same (let last = last_behind moment off in omega (arith, last))
+    by (Values moment) true on same = to (Values moment) (KeysAgain moment) same (let fewer = fewer_rounds off on in omega (arith, fewer))
+    by ShortCleanups more on same = to ShortCleanups ShortTargets same (omega arith)
+    by ShortTargets more on same = to ShortTargets ShortWords same (omega arith)
+    by ShortWords more on same = to ShortWords ShortKeys same (omega arith)
+    by ShortKeys more on same = to ShortKeys ShortKeyWords same (omega arith)
+    by ShortKeyWords more on same = to ShortKeyWords Objects same (omega arith)
+    by Objects more on same = to Objects Children same (omega arith)
+    by Children more on same = to Children (Keys Led) same (omega arith)
+    by Again more on same = to Again Picks same (omega arith)
+    by Picks more on same = to Picks (Keys Picked) same (omega arith)
+    by LateAgain more on same = to LateAgain LatePicks same (omega arith)
+    by LatePicks more on same = to LatePicks (Keys Last) same (omega arith)
+    by LongTargets more on same = to LongTargets LongWords same (omega arith)
+    by LongWords more on same = to LongWords LongKeys same (omega arith)
+    by LongKeys more on same = to LongKeys LongKeyWords same (omega arith)
+    by LongKeyWords more on same = to LongKeyWords ShortHolders same (omega arith)
+    by ShortHolders more on same = to ShortHolders LongHolders same (omega arith)
+    by LongHolders more on same = to LongHolders ShortKeyHolders same (omega arith)
+    by ShortKeyHolders more on same = to ShortKeyHolders LongKeyHolders same (omega arith)
+    by LongKeyHolders more on same = to LongKeyHolders LongCleanups same (omega arith)
+    by LongCleanups more on same = absurd (none-some next same)
 
 -- the phases that make the marks whole ask about each ephemeron
 pub settling_skips : (phase : Phase) (g : Going) → IsTrue (settles phase) → skip phase g ≡ g
@@ -117,11 +142,11 @@ settling_skips phase g on = by phase g.left on
     by LongCleanups (item ∷ xs) on = absurd (true≢false (sym on))
 
 -- so how many follow isn't changed by skipping
-pub left_skipped : (phase : Phase) (g : Going) → phases_left phase (skip phase g).kept ≡ phases_left phase g.kept
-left_skipped (Keys moment) g = refl
-left_skipped (KeysAgain moment) g = refl
-left_skipped (Holders moment) g = refl
-left_skipped (Values moment) g = ap (λ (k : Going). phases_left (Values moment) k.kept) (settling_skips (Values moment) g refl)
+pub left_skipped : (phase : Phase) (g : Going) → phases_left phase (skip phase g).off ≡ phases_left phase g.off
+left_skipped (Keys moment) g = ap (λ (k : Going). phases_left (Keys moment) k.off) (settling_skips (Keys moment) g refl)
+left_skipped (KeysAgain moment) g = ap (λ (k : Going). phases_left (KeysAgain moment) k.off) (settling_skips (KeysAgain moment) g refl)
+left_skipped (Holders moment) g = ap (λ (k : Going). phases_left (Holders moment) k.off) (settling_skips (Holders moment) g refl)
+left_skipped (Values moment) g = ap (λ (k : Going). phases_left (Values moment) k.off) (settling_skips (Values moment) g refl)
 left_skipped ShortCleanups g = refl
 left_skipped ShortTargets g = refl
 left_skipped ShortWords g = refl
@@ -144,8 +169,8 @@ left_skipped LongKeyHolders g = refl
 left_skipped LongCleanups g = refl
 
 -- which lists are set aside when the next phase begins
-pub follows_on : (phase next : Phase) (kept : List Item) → next_phase phase kept ≡ Some next → follows_settling next ≡ settles phase
-follows_on phase next kept is = by phase kept is
+pub follows_on : (phase next : Phase) (more : Bool) → next_phase phase more ≡ Some next → follows_settling next ≡ settles phase
+follows_on phase next more is = by phase more is
   where
     to : (q : Phase) (b : Bool) → Some q ≡ Some next → follows_settling q ≡ b → follows_settling next ≡ b
     to q b is same = ap follows_settling (sym (same_Some q next is)) ∙ same
@@ -156,32 +181,32 @@ follows_on phase next kept is = by phase kept is
     behind_on Picked = refl
     behind_on Last = refl
 
-    by : (p : Phase) (kept : List Item) → next_phase p kept ≡ Some next → follows_settling next ≡ settles p
-    by (Keys moment) kept is = to (Holders moment) true is refl
-    by (KeysAgain moment) kept is = to (Holders moment) true is refl
-    by (Holders moment) kept is = to (Values moment) true is refl
-    by (Values moment) [] is = to (behind moment) true is (behind_on moment)
-    by (Values moment) (item ∷ kept) is = to (KeysAgain moment) true is refl
-    by ShortCleanups kept is = to ShortTargets false is refl
-    by ShortTargets kept is = to ShortWords false is refl
-    by ShortWords kept is = to ShortKeys false is refl
-    by ShortKeys kept is = to ShortKeyWords false is refl
-    by ShortKeyWords kept is = to Objects false is refl
-    by Objects kept is = to Children false is refl
-    by Children kept is = to (Keys Led) false is refl
-    by Again kept is = to Picks false is refl
-    by Picks kept is = to (Keys Picked) false is refl
-    by LateAgain kept is = to LatePicks false is refl
-    by LatePicks kept is = to (Keys Last) false is refl
-    by LongTargets kept is = to LongWords false is refl
-    by LongWords kept is = to LongKeys false is refl
-    by LongKeys kept is = to LongKeyWords false is refl
-    by LongKeyWords kept is = to ShortHolders false is refl
-    by ShortHolders kept is = to LongHolders false is refl
-    by LongHolders kept is = to ShortKeyHolders false is refl
-    by ShortKeyHolders kept is = to LongKeyHolders false is refl
-    by LongKeyHolders kept is = to LongCleanups false is refl
-    by LongCleanups kept is = absurd (none-some next is)
+    by : (p : Phase) (more : Bool) → next_phase p more ≡ Some next → follows_settling next ≡ settles p
+    by (Keys moment) more is = to (Holders moment) true is refl
+    by (KeysAgain moment) more is = to (Holders moment) true is refl
+    by (Holders moment) more is = to (Values moment) true is refl
+    by (Values moment) false is = to (behind moment) true is (behind_on moment)
+    by (Values moment) true is = to (KeysAgain moment) true is refl
+    by ShortCleanups more is = to ShortTargets false is refl
+    by ShortTargets more is = to ShortWords false is refl
+    by ShortWords more is = to ShortKeys false is refl
+    by ShortKeys more is = to ShortKeyWords false is refl
+    by ShortKeyWords more is = to Objects false is refl
+    by Objects more is = to Children false is refl
+    by Children more is = to (Keys Led) false is refl
+    by Again more is = to Picks false is refl
+    by Picks more is = to (Keys Picked) false is refl
+    by LateAgain more is = to LatePicks false is refl
+    by LatePicks more is = to (Keys Last) false is refl
+    by LongTargets more is = to LongWords false is refl
+    by LongWords more is = to LongKeys false is refl
+    by LongKeys more is = to LongKeyWords false is refl
+    by LongKeyWords more is = to ShortHolders false is refl
+    by ShortHolders more is = to LongHolders false is refl
+    by LongHolders more is = to ShortKeyHolders false is refl
+    by ShortKeyHolders more is = to LongKeyHolders false is refl
+    by LongKeyHolders more is = to LongCleanups false is refl
+    by LongCleanups more is = absurd (none-some next is)
 
 pub objects_is : (phase : Phase) → is_objects phase ≡ true → phase ≡ Objects
 objects_is (Keys moment) on = absurd (true≢false (sym on))
@@ -217,12 +242,12 @@ pub no_left : (xs : List Item) → is_some (slice_get xs 0) ≡ false → xs ≡
 no_left [] h = refl
 no_left (item ∷ xs) h = absurd (true≢false h)
 
-module _ (phase : Phase) (g k : Going) (skipped : k ≡ skip phase g) where
-  pub asks_on : is_some (slice_get k.left 0) ≡ true → GoesOn phase g (Some phase) k
-  asks_on some = let found = some_left k.left some in subst (λ (h : Going). GoesOn phase g (Some phase) h) (sym skipped) (Asks found.0 (drop 1 k.left) (sym (ap (λ (h : Going). h.left) skipped) ∙ found.1))
+module _ {scope : Scope} (phase : Phase) (g k : Going) (skipped : k ≡ skip phase g) where
+  pub asks_on : is_some (slice_get k.left 0) ≡ true → GoesOn scope phase g (Some phase) k
+  asks_on some = let found = some_left k.left some in subst (λ (h : Going). GoesOn scope phase g (Some phase) h) (sym skipped) (Asks found.0 (drop 1 k.left) (sym (ap (λ (h : Going). h.left) skipped) ∙ found.1))
 
-  pub turns_on : (next : Phase) (h : Going) → is_some (slice_get k.left 0) ≡ false → next_phase phase k.kept ≡ Some next → Begins next k h → (last : Option Phase) (m : Going) → GoesOn next h last m → GoesOn phase g last m
-  turns_on next h none turns begins last m rest = Turns (sym (ap (λ (j : Going). j.left) skipped) ∙ no_left k.left none) (ap (λ (j : Going). next_phase phase j.kept) (sym skipped) ∙ turns) (subst (λ (j : Going). Begins next j h) skipped begins) rest
+  pub turns_on : (next : Phase) (h : Going) → is_some (slice_get k.left 0) ≡ false → next_phase phase (looks_again k.off) ≡ Some next → Begins scope next k h → (last : Option Phase) (m : Going) → GoesOn scope next h last m → GoesOn scope phase g last m
+  turns_on next h none turns begins last m rest = Turns (sym (ap (λ (j : Going). j.left) skipped) ∙ no_left k.left none) (ap (λ (j : Going). next_phase phase (looks_again j.off)) (sym skipped) ∙ turns) (subst (λ (j : Going). Begins scope next j h) skipped begins) rest
 
-  pub ends_on : is_some (slice_get k.left 0) ≡ false → next_phase phase k.kept ≡ None → GoesOn phase g None k
-  ends_on none ends = subst (λ (h : Going). GoesOn phase g None h) (sym skipped) (Ends (sym (ap (λ (j : Going). j.left) skipped) ∙ no_left k.left none) (ap (λ (j : Going). next_phase phase j.kept) (sym skipped) ∙ ends))
+  pub ends_on : is_some (slice_get k.left 0) ≡ false → next_phase phase (looks_again k.off) ≡ None → GoesOn scope phase g None k
+  ends_on none ends = subst (λ (h : Going). GoesOn scope phase g None h) (sym skipped) (Ends (sym (ap (λ (j : Going). j.left) skipped) ∙ no_left k.left none) (ap (λ (j : Going). next_phase phase (looks_again j.off)) (sym skipped) ∙ ends))

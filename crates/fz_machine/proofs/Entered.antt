@@ -1,5 +1,6 @@
 -- What the lists of phases have of links and registrations.
-use Rattle.std.proofs.Common.{◌≡◌, ◌⊎◌, ◌∷◌, [], ◌∙◌, ℕ, Bool, true, false, cond, List, Some, Contains, map, refl, sym, ap, subst, inl, inr, ⊎_elim, not, IsTrue}
+use Rattle.std.proofs.Common.{◌≡◌, ◌≤◌, ◌⊎◌, filter, nat_le, ◌∷◌, [], ◌∙◌, ℕ, Bool, true, false, cond, List, Some, Contains, map, refl, sym, ap, subst, inl, inr, ⊎_elim, not, IsTrue}
+use Rattle.std.proofs.lemmas.Bool.{le-leb}
 use Rattle.std.proofs.lemmas.List.Elements.{All-contains_itself, All-weaker}
 use Rattle.std.specs.FinMap.{get, contains_key}
 use Rattle.std.specs.FinSet.{contains}
@@ -11,7 +12,7 @@ use Rattle.fz_model.proofs.KeyedEntries.{got, listed}
 use Rattle.fz_model.proofs.Sound.{is_some_of}
 use Rattle.fz_machine.specs.declared.item.Item.{Item}
 use Rattle.fz_machine.specs.Items.{AreEntriesOf, AreLinks, AreObjects, of_link, of_late, of_other, of_stored}
-use Rattle.fz_machine.proofs.Among.{Each, OneOf, each_from, each_mapped, each_unmapped, one_as, one_from, one_mapped, one_unmapped}
+use Rattle.fz_machine.proofs.Among.{Each, OneOf, each_filter, each_from, each_mapped, each_unmapped, one_as, one_filter, one_from, one_mapped, one_unmapped}
 use Rattle.fz_machine.proofs.Sifting.{IsAt}
 
 module _ {X : Type 0} (m : Map X) (es : List (ℕ × X)) (are : AreEntriesOf m es) where
@@ -71,14 +72,15 @@ module _ (registrations : Map Registration) (late : Set) where
   each_stored [] h k = tt
   each_stored (e ∷ es) h k = (one_stored e h.0 k.0, each_stored es h.1 k.1)
 
-  module _ (items : List Item) (are : AreObjects registrations late items) where
+  module _ (from : ℕ) (items : List Item) (are : AreObjects from registrations late items) where
     pub objects_each : Each IsOfEither items
     objects_each = subst (Each IsOfEither) (sym are.3)
-        (each_mapped of_stored IsOfEither are.0
-        (each_stored are.0 (each_unmapped plain (λ e. get registrations e.0 ≡ Some e.1) are.0 (stands registrations (map plain are.0) are.1)) (each_from (λ (e : ℕ × Stored). e.1.unreachable ≡ contains late e.0) are.0 are.2)))
+        (each_mapped of_stored IsOfEither (filter (λ (e : ℕ × Stored). nat_le from e.1.number) are.0)
+        (each_filter (λ (e : ℕ × Stored). IsOfEither (of_stored e)) (λ (e : ℕ × Stored). nat_le from e.1.number) are.0 (each_stored are.0 (each_unmapped plain (λ e. get registrations e.0 ≡ Some e.1) are.0 (stands registrations (map plain are.0) are.1)) (each_from (λ (e : ℕ × Stored). e.1.unreachable ≡ contains late e.0) are.0 are.2))))
 
-    pub objects_all : (object word : ℕ) → IsEitherAt object word → OneOf (IsAt object word) items
-    objects_all object word either = ⊎_elim (λ x. at x.0 x.2) (λ x. at x.0 x.2) either
+    -- those that come no earlier are listed
+    pub objects_all : (object word : ℕ) → IsEitherAt object word → ((r : Registration) → get registrations object ≡ Some r → from ≤ r.number) → OneOf (IsAt object word) items
+    objects_all object word either young = ⊎_elim (λ x. at x.0 x.2) (λ x. at x.0 x.2) either
       where
         here_at : (e : ℕ × Stored) → e.0 ≡ object → word ≡ 0 → (b : Bool) → IsAt object word (cond b (of_late (plain e)) (of_other (plain e)))
         here_at e is zero true = (is, sym zero)
@@ -87,6 +89,10 @@ module _ (registrations : Map Registration) (late : Set) where
         at : IsTrue (contains_key registrations object) → word ≡ 0 → OneOf (IsAt object word) items
         at here zero =
             let r = is_some_of (get registrations object) (ap not here) in
-            let one = one_unmapped plain (λ (e : ℕ × Registration). e.0 ≡ object) are.0 (entered registrations (map plain are.0) are.1 (λ e. e.0 ≡ object) object r.0 r.1 refl) in
+            let is_it : ℕ × Registration → Type 0 = λ e. (e.0 ≡ object) × (e.1 ≡ r.0) in
+            let one = one_unmapped plain is_it are.0 (entered registrations (map plain are.0) are.1 is_it object r.0 r.1 (refl, refl)) in
+            let passes : (e : ℕ × Stored) → is_it (plain e) → nat_le from e.1.number ≡ true = λ e is. le-leb from e.1.number (subst (λ n. from ≤ n) (sym (ap (λ (q : Registration). q.number) is.1)) (young r.0 r.1)) in
             subst (OneOf (IsAt object word)) (sym are.3)
-            (one_mapped of_stored (IsAt object word) are.0 (one_as (λ (e : ℕ × Stored). e.0 ≡ object) (λ (e : ℕ × Stored). IsAt object word (of_stored e)) (λ e is. here_at e is zero e.1.unreachable) are.0 one))
+            (one_mapped of_stored (IsAt object word) (filter (λ (e : ℕ × Stored). nat_le from e.1.number) are.0)
+            (one_as (λ (e : ℕ × Stored). is_it (plain e)) (λ (e : ℕ × Stored). IsAt object word (of_stored e)) (λ e is. here_at e is.0 zero e.1.unreachable) (filter (λ (e : ℕ × Stored). nat_le from e.1.number) are.0)
+            (one_filter (λ (e : ℕ × Stored). is_it (plain e)) (λ (e : ℕ × Stored). nat_le from e.1.number) passes are.0 one)))

@@ -1,5 +1,6 @@
 -- Each answer that is heard leaves fewer to come.
-use Rattle.std.proofs.Common.{◌≡◌, ◌≤◌, ◌+◌, ◌-◌, ◌*◌, ◌∷◌, ◌∙◌, [], ℕ, zero, suc, Bool, true, false, not, cond, refl, List, length, map, Option, Some, None, inl, inr, sym, ap, subst, is_some, length-append, add-one, add-mul, mul-add, mul-suc, arith}
+use Rattle.std.proofs.Common.{◌≡◌, ◌≤◌, ◌<◌, ◌+◌, ◌-◌, ◌*◌, ◌++◌, ◌∷◌, ◌∙◌, [], ℕ, zero, suc, Bool, true, false, cond, refl, slice_get, filter, get_or, nat_le, List, length, map, Option, Some, None, inl, inr, sym, ap, subst, is_some, length-append, add-mul, mul-add, mul-suc, arith}
+use Rattle.std.proofs.lemmas.Bool.{true≢false}
 use Rattle.std.proofs.lemmas.List.{length-map}
 use Rattle.std.proofs.lemmas.Option.{none-some}
 use Rattle.std.proofs.lemmas.List.Sorted.{length_permutation}
@@ -7,6 +8,8 @@ use Rattle.std.specs.FinMap.{len, remove}
 use Rattle.fz_model.specs.declared.answers.Registration.{Registration}
 use Rattle.fz_model.specs.State.{Map}
 use Rattle.fz_model.proofs.KeyedEntries.{len_made}
+use Rattle.fz_model.proofs.Maps.{retained_back}
+use Rattle.fz_table.specs.declared.stored.Stored.{Stored}
 use Rattle.fz_table.specs.Tabled.{Set, plain}
 use Rattle.fz_model.specs.declared.kinds.LinkKind.{LinkKind}
 use Rattle.fz_model.specs.declared.kinds.LinkKind.TheVariants.{Short, Long}
@@ -22,88 +25,207 @@ use Rattle.fz_machine.specs.declared.phase.Moment.{Moment}
 use Rattle.fz_machine.specs.declared.phase.Moment.TheVariants.{First, Led, Picked, Last}
 use Rattle.fz_machine.specs.declared.phase.Phase.TheVariants.{Keys, KeysAgain, Holders, Values, ShortCleanups, ShortTargets, ShortWords, ShortKeys, ShortKeyWords, Objects, Children, Again, Picks, LateAgain, LatePicks, LongTargets, LongWords, LongKeys, LongKeyWords, ShortHolders, LongHolders, ShortKeyHolders, LongKeyHolders, LongCleanups}
 use Rattle.fz_machine.specs.Going.{going}
-use Rattle.fz_machine.specs.Heard.{Begun, Goes, Hears, Meanwhile, PassesEnd, covered}
+use Rattle.fz_machine.specs.Heard.{Begun, Goes, Hears, Meanwhile, PassesEnd, Told, covered}
 use Rattle.fz_machine.specs.Items.{AreCleanups, AreEntriesOf, AreEphemerons, AreLinks, AreObjects, of_cleanup, of_link, of_stored}
-use Rattle.fz_machine.specs.Machines.{IsWork, Machine, Tells}
-use Rattle.fz_machine.specs.Phases.{Lists, after, aside_in, asks, behind, given, keeps, next_phase, off_in, puts_off}
+use Rattle.fz_machine.specs.Machines as machines
+use Rattle.fz_machine.specs.Machines.{IsWork, Machine, Tells, TellsIn}
+use Rattle.fz_machine.specs.Off.{PutOff, TellsOff, looked_at, looking, looks_again, none_off, put_off, stuck_with}
+use Rattle.fz_machine.specs.Phases.{Scope, Lists, after, aside_in, asks, behind, given, keeps, next_phase, off_in}
 use Rattle.fz_machine.specs.Regions.{items_in}
 use Rattle.fz_machine.specs.Steps.{Asks, Ends, Going, GoesOn, Turns, skip, skipped, steps}
 use Rattle.fz_machine.proofs.Phasing.{kept_on}
 use Rattle.fz_machine.proofs.Due.{HasOf, both_kinds, fewer_of}
 use Rattle.fz_machine.proofs.Remaining.{items_same}
+use Rattle.fz_machine.proofs.Stepping.{stops}
+use Rattle.fz_machine.proofs.Delayed.{all_off, all_with, tells_moves}
 use Rattle.fz_machine.proofs.Within.{IsWithin, still}
 use Rattle.fz_machine.proofs.Working.{work_apart}
 
-abbrev at : State → List Item → List Item → List Item → List Item → Going
+abbrev at : State → List Item → List Item → List Item → PutOff → Going
 at s kept left aside off = record { finalizers = s; kept = kept; left = left; aside = aside; off = off }
 
 -- ---- rounds over ephemerons
 
--- how often rounds may go over so many: three times over each in the first round, and over at least one fewer in the next
+-- how often rounds may go over so many. In a round about all, all but one are asked about twice, and that one three times; then the others are told, and are
+-- asked about twice in a round of their own
 abbrev most : ℕ → ℕ
 most zero = 0
-most (suc n) = 3 * suc n + most n
-
-most_next : (n : ℕ) → most n ≡ 3 * n + most (n - 1)
-most_next zero = refl
-most_next (suc n) = let same : suc n - 1 ≡ n = omega arith in ap (λ k. 3 * suc n + most k) (sym same)
+most (suc n) = 4 * n + 3 + most n
 
 most_more : (n k : ℕ) → most n ≤ most (k + n)
 most_more n zero = let is : 0 + n ≡ n = omega arith in let same = ap most is in omega (arith, same)
 most_more n (suc k) =
     let few = most_more n k in
     let is : suc k + n ≡ suc (k + n) = omega arith in
-    let same : most (suc k + n) ≡ 3 * suc (k + n) + most (k + n) = ap most is in
+    let same : most (suc k + n) ≡ 4 * (k + n) + 3 + most (k + n) = ap most is in
     omega (arith, few, same)
 
 most_le : (n m : ℕ) → n ≤ m → most n ≤ most m
 most_le n m le = let more = most_more n (m - n) in let same : m - n + n ≡ m = omega (arith, le) in subst (λ k. most n ≤ most k) same more
 
 -- as a product
-most_is : (n : ℕ) → 4 * most n ≡ 6 * n * (n + 1)
+most_is : (n : ℕ) → 4 * most n ≡ 4 * n * (2 * n + 1)
 most_is zero = refl
 most_is (suc n) =
     let before = most_is n in
-    let one : 6 * suc n * (suc n + 1) ≡ 6 * suc n * suc n + 6 * suc n * 1 = mul-add (6 * suc n) (suc n) 1 in
-    let two : 6 * suc n * suc n ≡ 6 * n * suc n + 6 * suc n = ap (λ k. k * suc n) (mul-suc 6 n) ∙ add-mul (6 * n) 6 (suc n) in
-    let three : 6 * n * suc n ≡ 6 * n * (n + 1) = ap (λ k. 6 * n * k) (sym (add-one n)) in
-    omega (arith, before, one, two, three)
+    let more : 2 * suc n + 1 ≡ 2 * n + 1 + 2 = omega arith in
+    let one : 4 * suc n * (2 * suc n + 1) ≡ 4 * n * (2 * suc n + 1) + 4 * (2 * suc n + 1) = ap (λ k. k * (2 * suc n + 1)) (mul-suc 4 n) ∙ add-mul (4 * n) 4 (2 * suc n + 1) in
+    let two : 4 * n * (2 * suc n + 1) ≡ 4 * n * (2 * n + 1) + 4 * n * 2 = ap (λ k. 4 * n * k) more ∙ mul-add (4 * n) (2 * n + 1) 2 in
+    omega (arith, before, one, two)
 
--- what a round may still ask for, and those after it, by how many are kept, left, and put off
-abbrev keys_to_come : ℕ → ℕ → ℕ → ℕ
-keys_to_come kept left off = 3 * left + 2 * kept + most (kept + left + off - 1)
+-- what may follow once a value was asked about: those that wait are told, and then all are looked at
+abbrev most_told : ℕ → ℕ
+most_told n = 2 * n + most n
 
-abbrev holders_to_come : ℕ → ℕ → ℕ → ℕ
-holders_to_come kept left off = 2 * left + kept + most (kept + left + off - 1)
+told_more : (n k : ℕ) → k + most_told n ≤ most_told (k + n)
+told_more n zero = let is : 0 + n ≡ n = omega arith in let same = ap most_told is in omega (arith, same)
+told_more n (suc k) =
+    let few = told_more n k in
+    let is : suc k + n ≡ suc (k + n) = omega arith in
+    let same : most (suc k + n) ≡ 4 * (k + n) + 3 + most (k + n) = ap most is in
+    omega (arith, few, same)
 
-abbrev values_to_come : ℕ → ℕ → ℕ → ℕ
-values_to_come zero zero off = 0
-values_to_come (suc kept) zero off = most off
-values_to_come kept (suc left) off = suc left + most off
+-- what may follow the questions about keys and holders in a round, by how many were told, whether a value may have been marked, and how many wait
+abbrev to_follow : ℕ → Bool → ℕ → ℕ
+to_follow zero false zero = 0
+to_follow zero false (suc n) = most_told n + 1
+to_follow zero true n = most n
+to_follow (suc told) again n = most_told n
+
+-- a round about all
+all_follow : (n : ℕ) → 2 * n + to_follow 0 false n ≤ most n
+all_follow zero = omega arith
+all_follow (suc n) = omega arith
+
+few_follow : (again : Bool) (n : ℕ) → to_follow 0 again n ≤ most n
+few_follow false n = let all = all_follow n in omega (arith, all)
+few_follow true n = omega arith
+
+-- what may follow while values are asked about, by how many are left, and put off, and told
+abbrev values_to_come : ℕ → ℕ → ℕ → Bool → ℕ
+values_to_come (suc left) rows told again = suc left + most_told rows
+values_to_come zero rows (suc told) again = most_told rows
+values_to_come zero rows zero true = most rows
+values_to_come zero rows zero false = 0
+
+values_less : (left rows told : ℕ) (again : Bool) → values_to_come left rows told again + 1 ≤ suc left + most_told rows
+values_less (suc left) rows told again = omega arith
+values_less zero rows (suc told) again = omega arith
+values_less zero rows zero true = omega arith
+values_less zero rows zero false = omega arith
+
+values_begin : (left rows told : ℕ) (again : Bool) (n : ℕ) → n ≡ left + rows → values_to_come left rows told again ≤ to_follow told again n
+values_begin zero rows (suc told) again n is = let all : n ≡ rows = omega (arith, is) in let same = ap most all in omega (arith, all, same)
+values_begin zero rows zero true n is = let all : n ≡ rows = omega (arith, is) in let same = ap most all in omega (arith, same)
+values_begin zero rows zero false n is = omega arith
+values_begin (suc left) rows (suc told) again n is = let more = told_more rows (suc left) in let same = ap most_told is in omega (arith, more, same)
+values_begin (suc left) rows zero again zero is = absurd (omega (arith, is))
+values_begin (suc left) rows zero true (suc n) is =
+    let more = told_more rows left in
+    let less : n ≡ left + rows = omega (arith, is) in
+    let same = ap most less in
+    omega (arith, more, less, same)
+values_begin (suc left) rows zero false (suc n) is =
+    let more = told_more rows left in
+    let less : n ≡ left + rows = omega (arith, is) in
+    let same = ap most less in
+    omega (arith, more, less, same)
+
+-- how many are put off, how many of them were told, and whether a value may have been marked
+record Size : Type 0 where
+  rows : ℕ
+  told : ℕ
+  again : Bool
+
+abbrev size_of : PutOff → Size
+size_of off = record { rows = length (all_off off); told = length off.told; again = off.again }
+
+-- what may follow while keys and holders are asked about, by how many are kept, left, and put off
+abbrev keys_to_come : ℕ → ℕ → Size → ℕ
+keys_to_come kept left off = 2 * left + kept + to_follow off.told off.again (kept + left + off.rows)
+
+abbrev holders_to_come : ℕ → ℕ → Size → ℕ
+holders_to_come kept left off = left + to_follow off.told off.again (kept + left + off.rows)
 
 -- one more if it is so
 abbrev one_if : Bool → ℕ → ℕ
 one_if b n = cond b (n + 1) n
 
-values_fewer : (answer : Bool) (kept left off : ℕ) → values_to_come (one_if answer kept) left off + 1 ≤ values_to_come kept (suc left) off
-values_fewer true kept zero off = let same : kept + 1 ≡ suc kept = add-one kept in subst (λ k. values_to_come k zero off + 1 ≤ values_to_come kept (suc zero) off) (sym same) (by kept)
-  where
-    by : (k : ℕ) → most off + 1 ≤ values_to_come k (suc zero) off
-    by zero = omega arith
-    by (suc k) = omega arith
-values_fewer false zero zero off = omega arith
-values_fewer false (suc kept) zero off = omega arith
-values_fewer answer kept (suc left) off = by (one_if answer kept) kept
-  where
-    by : (k n : ℕ) → values_to_come k (suc left) off + 1 ≤ values_to_come n (suc (suc left)) off
-    by zero zero = omega arith
-    by zero (suc n) = omega arith
-    by (suc k) zero = omega arith
-    by (suc k) (suc n) = omega arith
+-- one more is put off
+rows_with : (off : PutOff) (item : Item) → length (all_off (stuck_with off item)) ≡ length (all_off off) + 1
+rows_with off item = ap length (all_with off item) ∙ length-append (all_off off) (item ∷ [])
 
-values_least : (kept off all : ℕ) → off ≤ all - 1 → kept ≤ all → values_to_come 0 kept off ≤ kept + most (all - 1)
-values_least zero off all le within = omega arith
-values_least (suc kept) off all le within = let few = most_le off (all - 1) le in omega (arith, few)
+module _ (kept left : ℕ) (off : PutOff) (item : Item) where
+  abbrev follow : ℕ → ℕ
+  follow = to_follow (length off.told) off.again
+
+  still_follow : follow (kept + 1 + left + length (all_off off)) ≡ follow (kept + suc left + length (all_off off))
+  still_follow = let same : kept + 1 + left + length (all_off off) ≡ kept + suc left + length (all_off off) = omega arith in ap follow same
+
+  stuck_follow : follow (kept + left + length (all_off (stuck_with off item))) ≡ follow (kept + suc left + length (all_off off))
+  stuck_follow =
+      let more = rows_with off item in
+      let same : kept + left + length (all_off (stuck_with off item)) ≡ kept + suc left + length (all_off off) = omega (arith, more) in
+      ap follow same
+
+  keys_fewer : (answer : Bool) → keys_to_come (one_if answer kept) left (size_of (cond answer off (stuck_with off item))) + 1 ≤ keys_to_come kept (suc left) (size_of off)
+  keys_fewer true = let same = still_follow in omega (arith, same)
+  keys_fewer false = let same = stuck_follow in omega (arith, same)
+
+  holders_fewer : (answer : Bool) → holders_to_come (one_if answer kept) left (size_of (cond answer off (stuck_with off item))) + 1 ≤ holders_to_come kept (suc left) (size_of off)
+  holders_fewer true = let same = still_follow in omega (arith, same)
+  holders_fewer false = let same = stuck_follow in omega (arith, same)
+
+abbrev values_of : ℕ → Size → ℕ
+values_of left off = values_to_come left off.rows off.told off.again
+
+values_fewer : (answer : Bool) (left : ℕ) (off : PutOff) → values_of left (size_of (cond answer (record off { again = true }) off)) + 1 ≤ values_of (suc left) (size_of off)
+values_fewer true left off = values_less left (length (all_off off)) (length off.told) true
+values_fewer false left off = values_less left (length (all_off off)) (length off.told) off.again
+
+-- another round begins
+again_fewer : (items : List Item) (off : PutOff) → looks_again off ≡ true → items ≡ looked_at off → keys_to_come 0 (length items) (size_of (looking off)) ≤ values_of 0 (size_of off)
+again_fewer items off on is = subst (λ xs. keys_to_come 0 (length xs) (size_of (looking off)) ≤ values_of 0 (size_of off)) (sym is) (by off.told on)
+  where
+    with_told : List Item → PutOff
+    with_told told = record off { told = told }
+
+    rest : List Item
+    rest = off.index ++ off.stuck
+
+    by : (told : List Item) → looks_again (with_told told) ≡ true → keys_to_come 0 (length (looked_at (with_told told))) (size_of (looking (with_told told))) ≤ values_of 0 (size_of (with_told told))
+    by [] again =
+        let long = length-append off.stuck off.index in
+        let rows = length-append off.index off.stuck in
+        let same : 0 + length (off.stuck ++ off.index) + 0 ≡ length rest = omega (arith, long, rows) in
+        let follow = ap (to_follow 0 false) same in
+        let all = all_follow (length rest) in
+        subst (λ b. keys_to_come 0 (length (off.stuck ++ off.index)) (size_of none_off) ≤ values_to_come 0 (length rest) 0 b) (sym again) (omega (arith, same, follow, all))
+    by (item ∷ told) some =
+        let rows = length-append (item ∷ told) rest in
+        let same : 0 + length (item ∷ told) + length rest ≡ length ((item ∷ told) ++ rest) = omega (arith, rows) in
+        let follow = ap (to_follow 0 off.again) same in
+        let few = few_follow off.again (length ((item ∷ told) ++ rest)) in
+        omega (arith, rows, follow, few)
+
+abbrev is_values : Option Phase → Bool
+is_values (Some (Values moment)) = true
+is_values phase = false
+
+not_values : (moment : Moment) → Some (Keys First) ≡ Some (Values moment) → ⊥
+not_values moment is = true≢false (sym (ap is_values is))
+
+fewer_young : {X : Type 0} (p : X → Bool) (xs : List X) → length (filter p xs) ≤ length xs
+fewer_young p [] = omega arith
+fewer_young p (x ∷ xs) = by (p x) (fewer_young p xs)
+  where
+    by : (b : Bool) → length (filter p xs) ≤ length xs → length (cond b (x ∷ filter p xs) (filter p xs)) ≤ suc (length xs)
+    by true le = omega (arith, le)
+    by false le = omega (arith, le)
+
+some_left : (xs : List Item) (x : Item) → slice_get xs 0 ≡ Some x → 0 < length xs
+some_left [] x h = absurd (none-some x h)
+some_left (y ∷ ys) x h = omega arith
 
 module _ (r s g es el sc l : ℕ) where
   abbrev e : ℕ
@@ -120,12 +242,12 @@ module _ (r s g es el sc l : ℕ) where
   behind_them Last aside = later
 
   -- how often a phase and those behind it may go over an item, by how many are kept, left, set aside, and put off
-  abbrev to_come : Option Phase → ℕ → ℕ → ℕ → ℕ → ℕ
+  abbrev to_come : Option Phase → ℕ → ℕ → ℕ → Size → ℕ
   to_come None kept left aside off = 0
   to_come (Some (Keys moment)) kept left aside off = keys_to_come kept left off + behind_them moment aside
   to_come (Some (KeysAgain moment)) kept left aside off = keys_to_come kept left off + behind_them moment aside
   to_come (Some (Holders moment)) kept left aside off = holders_to_come kept left off + behind_them moment aside
-  to_come (Some (Values moment)) kept left aside off = values_to_come kept left off + behind_them moment aside
+  to_come (Some (Values moment)) kept left aside off = values_of left off + behind_them moment aside
   to_come (Some ShortCleanups) kept left aside off = left + (2 * s + 2 * es + 6 * r + 3 * most e + later)
   to_come (Some ShortTargets) kept left aside off = 2 * left + kept + (2 * es + 6 * r + 3 * most e + later)
   to_come (Some ShortWords) kept left aside off = left + (2 * es + 6 * r + 3 * most e + later)
@@ -148,26 +270,18 @@ module _ (r s g es el sc l : ℕ) where
   to_come (Some LongCleanups) kept left aside off = left
 
   abbrev to_come_in : Option Phase → Going → ℕ
-  to_come_in phase k = to_come phase (length k.kept) (length k.left) (length k.aside) (length k.off)
+  to_come_in phase k = to_come phase (length k.kept) (length k.left) (length k.aside) (size_of k.off)
 
   one_more : (b : Bool) (n : ℕ) → one_if b n ≤ n + 1
   one_more true n = omega arith
   one_more false n = omega arith
 
-  keys_fewer : (answer : Bool) (kept left off : ℕ) → keys_to_come (one_if answer kept) left (one_if (not answer) off) + 1 ≤ keys_to_come kept (suc left) off
-  keys_fewer true kept left off = let same : kept + 1 + left + off - 1 ≡ kept + suc left + off - 1 = omega arith in let rest = ap most same in omega (arith, rest)
-  keys_fewer false kept left off = let same : kept + left + (off + 1) - 1 ≡ kept + suc left + off - 1 = omega arith in let rest = ap most same in omega (arith, rest)
-
-  holders_fewer : (answer : Bool) (kept left off : ℕ) → holders_to_come (one_if answer kept) left (one_if (not answer) off) + 1 ≤ holders_to_come kept (suc left) off
-  holders_fewer true kept left off = let same : kept + 1 + left + off - 1 ≡ kept + suc left + off - 1 = omega arith in let rest = ap most same in omega (arith, rest)
-  holders_fewer false kept left off = let same : kept + left + (off + 1) - 1 ≡ kept + suc left + off - 1 = omega arith in let rest = ap most same in omega (arith, rest)
-
-  fewer : (phase : Phase) (item : Item) (answer : Bool) (kept left aside off : ℕ)
-      → to_come (Some phase) (one_if (keeps phase item answer) kept) left aside (one_if (puts_off phase answer) off) + 1 ≤ to_come (Some phase) kept (suc left) aside off
-  fewer (Keys moment) item answer kept left aside off = let few = keys_fewer answer kept left off in omega (arith, few)
-  fewer (KeysAgain moment) item answer kept left aside off = let few = keys_fewer answer kept left off in omega (arith, few)
-  fewer (Holders moment) item answer kept left aside off = let few = holders_fewer answer kept left off in omega (arith, few)
-  fewer (Values moment) item answer kept left aside off = let few = values_fewer answer kept left off in omega (arith, few)
+  fewer : (phase : Phase) (item : Item) (answer : Bool) (kept left aside : ℕ) (off : PutOff)
+      → to_come (Some phase) (one_if (keeps phase item answer) kept) left aside (size_of (put_off phase item answer off)) + 1 ≤ to_come (Some phase) kept (suc left) aside (size_of off)
+  fewer (Keys moment) item answer kept left aside off = let few = keys_fewer kept left off item answer in omega (arith, few)
+  fewer (KeysAgain moment) item answer kept left aside off = let few = keys_fewer kept left off item answer in omega (arith, few)
+  fewer (Holders moment) item answer kept left aside off = let few = holders_fewer kept left off item answer in omega (arith, few)
+  fewer (Values moment) item answer kept left aside off = let few = values_fewer answer left off in omega (arith, few)
   fewer ShortCleanups item answer kept left aside off = let le = one_more (keeps ShortCleanups item answer) kept in omega (arith, le)
   fewer ShortTargets item answer kept left aside off = let le = one_more (keeps ShortTargets item answer) kept in omega (arith, le)
   fewer ShortWords item answer kept left aside off = let le = one_more (keeps ShortWords item answer) kept in omega (arith, le)
@@ -204,20 +318,19 @@ module _ (r s g es el sc l : ℕ) where
   abbrev IsFit : State → Type 0
   IsFit = IsWithin r s g es el Cleanups
 
-  abbrev past_one : Phase → Item → Bool → State → List Item → List Item → List Item → List Item → Going
-  past_one phase item answer t kept left aside off = at (after phase item answer t) (kept_on (keeps phase item answer) kept item) left aside (kept_on (puts_off phase answer) off item)
+  abbrev past_one : Phase → Item → Bool → State → List Item → List Item → List Item → PutOff → Going
+  past_one phase item answer t kept left aside off = at (after phase item answer t) (kept_on (keeps phase item answer) kept item) left aside (put_off phase item answer off)
 
   module _ (phase : Phase) where
-    past_fewer : (item : Item) (answer : Bool) (t : State) (kept left aside off : List Item)
-        → to_come_in (Some phase) (past_one phase item answer t kept left aside off) + 1 ≤ to_come (Some phase) (length kept) (suc (length left)) (length aside) (length off)
+    past_fewer : (item : Item) (answer : Bool) (t : State) (kept left aside : List Item) (off : PutOff)
+        → to_come_in (Some phase) (past_one phase item answer t kept left aside off) + 1 ≤ to_come (Some phase) (length kept) (suc (length left)) (length aside) (size_of off)
     past_fewer item answer t kept left aside off =
-        subst (λ k. to_come (Some phase) k (length left) (length aside) (length (kept_on (puts_off phase answer) off item)) + 1 ≤ to_come (Some phase) (length kept) (suc (length left)) (length aside) (length off)) (sym (long_on (keeps phase item answer) kept item))
-        (subst (λ o. to_come (Some phase) (one_if (keeps phase item answer) (length kept)) (length left) (length aside) o + 1 ≤ to_come (Some phase) (length kept) (suc (length left)) (length aside) (length off)) (sym (long_on (puts_off phase answer) off item))
-        (fewer phase item answer (length kept) (length left) (length aside) (length off)))
+        subst (λ k. to_come (Some phase) k (length left) (length aside) (size_of (put_off phase item answer off)) + 1 ≤ to_come (Some phase) (length kept) (suc (length left)) (length aside) (size_of off)) (sym (long_on (keeps phase item answer) kept item))
+        (fewer phase item answer (length kept) (length left) (length aside) off)
 
-    steps_fewer : (answers : List Bool) (t : State) (kept left aside off : List Item) → IsFit t → length answers ≤ length left
+    steps_fewer : (answers : List Bool) (t : State) (kept left aside : List Item) (off : PutOff) → IsFit t → length answers ≤ length left
         → IsFit (steps phase answers (at t kept left aside off)).finalizers
-        × (length answers + to_come_in (Some phase) (steps phase answers (at t kept left aside off)) ≤ to_come (Some phase) (length kept) (length left) (length aside) (length off))
+        × (length answers + to_come_in (Some phase) (steps phase answers (at t kept left aside off)) ≤ to_come (Some phase) (length kept) (length left) (length aside) (size_of off))
     steps_fewer [] t kept left aside off h few = (h, omega arith)
     steps_fewer (answer ∷ answers) t kept [] aside off h few = absurd (omega (arith, few))
     steps_fewer (answer ∷ answers) t kept (item ∷ left) aside off h few =
@@ -230,8 +343,8 @@ module _ (r s g es el sc l : ℕ) where
     abbrev IsPast : Going → ℕ → Type 0
     IsPast k n = IsFit k.finalizers × (to_come_in (Some phase) k ≤ n)
 
-    skips_fewer : (left : List Item) (t : State) (kept aside off : List Item) → IsFit t
-        → IsPast (skipped phase left (at t kept left aside off)) (to_come (Some phase) (length kept) (length left) (length aside) (length off))
+    skips_fewer : (left : List Item) (t : State) (kept aside : List Item) (off : PutOff) → IsFit t
+        → IsPast (skipped phase left (at t kept left aside off)) (to_come (Some phase) (length kept) (length left) (length aside) (size_of off))
     skips_fewer [] t kept aside off h = (h, omega arith)
     skips_fewer (item ∷ left) t kept aside off h =
         by (is_some (asks phase item)) (skips_fewer left k.finalizers k.kept aside k.off (still r s g es el Cleanups fewer_cleanups t h phase item false))
@@ -240,7 +353,7 @@ module _ (r s g es el sc l : ℕ) where
         k = past_one phase item false t kept left aside off
 
         by : (b : Bool) → IsPast (skipped phase left (past_one phase item false t kept left aside off)) (to_come_in (Some phase) (past_one phase item false t kept left aside off))
-            → IsPast (cond b (at t kept (item ∷ left) aside off) (skipped phase left (past_one phase item false t kept left aside off))) (to_come (Some phase) (length kept) (suc (length left)) (length aside) (length off))
+            → IsPast (cond b (at t kept (item ∷ left) aside off) (skipped phase left (past_one phase item false t kept left aside off))) (to_come (Some phase) (length kept) (suc (length left)) (length aside) (size_of off))
         by true rest = (h, omega arith)
         by false rest = let one = past_fewer item false t kept left aside off in let all = rest.1 in (rest.0, omega (arith, all, one))
 
@@ -262,78 +375,72 @@ module _ (r s g es el sc l : ℕ) where
       let few_long = links_few k.long longs long in
       omega (arith, all, few_short, few_long)
 
-  objects_few : (registrations : Map Registration) (late : Set) (items : List Item) → AreObjects registrations late items → length items ≡ len registrations
-  objects_few registrations late items are = ap length are.3 ∙ length-map are.0 of_stored ∙ sym (length-map are.0 plain) ∙ entries registrations (map plain are.0) are.1
+  objects_few : (from : ℕ) (registrations : Map Registration) (late : Set) (items : List Item) → AreObjects from registrations late items → length items ≤ len registrations
+  objects_few from registrations late items are =
+      let few = fewer_young (λ (e : ℕ × Stored). nat_le from e.1.number) are.0 in
+      let long = ap length are.3 ∙ length-map (filter (λ (e : ℕ × Stored). nat_le from e.1.number) are.0) of_stored in
+      let all = sym (length-map are.0 plain) ∙ entries registrations (map plain are.0) are.1 in
+      omega (arith, few, long, all)
 
-  cleanups_few : (when : LinkKind) (n : ℕ) (cleanups : Map Attached) (items : List Item) → HasOf when n cleanups → AreCleanups when cleanups items → length items ≤ n
-  cleanups_few when n cleanups items has are =
+  cleanups_few : (from : ℕ) (when : LinkKind) (n : ℕ) (cleanups : Map Attached) (items : List Item) → HasOf when n cleanups → AreCleanups from when cleanups items → length items ≤ n
+  cleanups_few from when n cleanups items has are =
       let same = ap length are.2 ∙ length-map are.0 of_cleanup in
-      let few = has are.0 (record { each = are.1.each; ordered = are.1.ordered }) in
+      let few = has are.0 (record { each = λ k d within. let one = are.1.each k d within in ((retained_back cleanups (nat_le from) (get_or are.0 k d).0 (get_or are.0 k d).1 one.0).1, one.1); ordered = are.1.ordered }) in
       omega (arith, same, few)
 
-  module _ (t : State) (h : IsFit t) where
+  module _ (scope : Scope) (t : State) (h : IsFit t) where
     -- the next phase begins with no more to come
-    abbrev IsFewer : Phase → List Item → List Item → List Item → Option Phase → Type 0
+    abbrev IsFewer : Phase → List Item → List Item → PutOff → Option Phase → Type 0
     IsFewer phase kept aside off None = Unit {0}
     IsFewer phase kept aside off (Some next) =
-        (items : List Item) → Lists next t (given next kept aside off) items
-        → to_come (Some next) 0 (length items) (length (aside_in next kept aside)) (length (off_in next off)) ≤ to_come (Some phase) (length kept) 0 (length aside) (length off)
+        (items : List Item) → Lists next scope t (given next kept aside off) items
+        → to_come (Some next) 0 (length items) (length (aside_in next kept aside)) (size_of (off_in next off)) ≤ to_come (Some phase) (length kept) 0 (length aside) (size_of off)
 
-    rows_begin : (items : List Item) → AreEphemerons t.ephemerons items → keys_to_come 0 (length items) 0 ≤ most e
+    rows_begin : (items : List Item) → AreEphemerons t.ephemerons items → keys_to_come 0 (length items) (size_of none_off) ≤ most e
     rows_begin items are =
         let count = rows_few t.ephemerons items are in
         let few_short = h.short_keys in
         let few_long = h.long_keys in
         let few = most_le (length items) e (omega (arith, count, few_short, few_long)) in
-        let next = most_next (length items) in
-        let same : 0 + length items + 0 - 1 ≡ length items - 1 = omega arith in
-        let rest = ap most same in
-        omega (arith, few, next, rest)
+        let all = all_follow (length items) in
+        let same : 0 + length items + 0 ≡ length items = omega arith in
+        let rest = ap (to_follow 0 false) same in
+        omega (arith, few, all, rest)
 
-    keys_turn : (moment : Moment) (kept aside off items : List Item) → items ≡ kept
-        → holders_to_come 0 (length items) (length off) + behind_them moment (length aside) ≤ keys_to_come (length kept) 0 (length off) + behind_them moment (length aside)
-    keys_turn moment kept aside off items is =
+    keys_turn : (moment : Moment) (kept aside items : List Item) (off : PutOff) → items ≡ kept
+        → holders_to_come 0 (length items) (size_of off) + behind_them moment (length aside) ≤ keys_to_come (length kept) 0 (size_of off) + behind_them moment (length aside)
+    keys_turn moment kept aside items off is =
         let long = ap length is in
-        let same : 0 + length items + length off - 1 ≡ length kept + 0 + length off - 1 = omega (arith, long) in
-        let rest = ap most same in
+        let same : 0 + length items + length (all_off off) ≡ length kept + 0 + length (all_off off) = omega (arith, long) in
+        let rest = ap (to_follow (length off.told) off.again) same in
         omega (arith, long, rest)
 
-    holders_turn : (moment : Moment) (kept aside off items : List Item) → items ≡ kept
-        → values_to_come 0 (length items) (length off) + behind_them moment (length aside) ≤ holders_to_come (length kept) 0 (length off) + behind_them moment (length aside)
-    holders_turn moment kept aside off items is = subst (λ n. values_to_come 0 n (length off) + behind_them moment (length aside) ≤ holders_to_come (length kept) 0 (length off) + behind_them moment (length aside)) (sym (ap length is)) (by (length kept))
+    holders_turn : (moment : Moment) (kept aside items : List Item) (off : PutOff) → items ≡ kept
+        → values_of (length items) (size_of off) + behind_them moment (length aside) ≤ holders_to_come (length kept) 0 (size_of off) + behind_them moment (length aside)
+    holders_turn moment kept aside items off is =
+        subst (λ (xs : List Item). values_of (length xs) (size_of off) + behind_them moment (length aside) ≤ holders_to_come (length kept) 0 (size_of off) + behind_them moment (length aside)) (sym is)
+        (let few = values_begin (length kept) (length (all_off off)) (length off.told) off.again (length kept + 0 + length (all_off off)) (omega arith) in omega (arith, few))
+
+    behind_turn : (moment : Moment) (kept aside : List Item) (off : PutOff) → IsFewer (Values moment) kept aside off (Some (behind moment))
+    behind_turn First kept aside off = λ items are. let few = cleanups_few scope.cleanups Short sc t.cleanups items h.attached.0 are in omega (arith, few)
+    behind_turn Led kept aside off = λ items is. let same = ap length is in omega (arith, same)
+    behind_turn Picked kept aside off = λ items is. let same = ap length is in omega (arith, same)
+    behind_turn Last kept aside off = λ items are. let many = links_few t.long items are in let few = h.long in omega (arith, many, few)
+
+    turns_fewer : (phase : Phase) (kept aside : List Item) (off : PutOff) → IsFewer phase kept aside off (next_phase phase (looks_again off))
+    turns_fewer (Keys moment) kept aside off = λ items is. keys_turn moment kept aside items off is
+    turns_fewer (KeysAgain moment) kept aside off = λ items is. keys_turn moment kept aside items off is
+    turns_fewer (Holders moment) kept aside off = λ items is. holders_turn moment kept aside items off is
+    turns_fewer (Values moment) kept aside off = by (looks_again off) refl
       where
-        by : (n : ℕ) → values_to_come 0 n (length off) + behind_them moment (length aside) ≤ holders_to_come n 0 (length off) + behind_them moment (length aside)
-        by zero = omega arith
-        by (suc n) =
-            let few = most_le (length off) (suc n + 0 + length off - 1) (omega arith) in
-            omega (arith, few)
-
-    again_turn : (moment : Moment) (item : Item) (kept aside off items : List Item) → items ≡ off
-        → keys_to_come 0 (length items) 0 + behind_them moment (length aside) ≤ values_to_come (suc (length kept)) 0 (length off) + behind_them moment (length aside)
-    again_turn moment item kept aside off items is =
-        let long = ap length is in
-        let same : 0 + length items + 0 - 1 ≡ length off - 1 = omega (arith, long) in
-        let rest = ap most same in
-        let next = most_next (length off) in
-        omega (arith, long, rest, next)
-
-    behind_turn : (moment : Moment) (aside off : List Item) → IsFewer (Values moment) [] aside off (Some (behind moment))
-    behind_turn First aside off = λ items are. let few = cleanups_few Short sc t.cleanups items h.attached.0 are in omega (arith, few)
-    behind_turn Led aside off = λ items is. let same = ap length is in omega (arith, same)
-    behind_turn Picked aside off = λ items is. let same = ap length is in omega (arith, same)
-    behind_turn Last aside off = λ items are. let many = links_few t.long items are in let few = h.long in omega (arith, many, few)
-
-    turns_fewer : (phase : Phase) (kept aside off : List Item) → IsFewer phase kept aside off (next_phase phase kept)
-    turns_fewer (Keys moment) kept aside off = λ items is. keys_turn moment kept aside off items is
-    turns_fewer (KeysAgain moment) kept aside off = λ items is. keys_turn moment kept aside off items is
-    turns_fewer (Holders moment) kept aside off = λ items is. holders_turn moment kept aside off items is
-    turns_fewer (Values moment) [] aside off = behind_turn moment aside off
-    turns_fewer (Values moment) (item ∷ kept) aside off = λ items is. again_turn moment item kept aside off items is
+        by : (more : Bool) → looks_again off ≡ more → IsFewer (Values moment) kept aside off (next_phase (Values moment) more)
+        by false over = behind_turn moment kept aside off
+        by true again = λ items is. let few = again_fewer items off again is in omega (arith, few)
     turns_fewer ShortCleanups kept aside off = λ items are. let many = links_few t.short items are in let few = h.short in omega (arith, many, few)
     turns_fewer ShortTargets kept aside off = λ items is. let same = ap length is in omega (arith, same)
     turns_fewer ShortWords kept aside off = λ items are. let many = links_few t.ephemerons.short items are in let few = h.short_keys in omega (arith, many, few)
     turns_fewer ShortKeys kept aside off = λ items is. let same = ap length is in omega (arith, same)
-    turns_fewer ShortKeyWords kept aside off = λ items are. let many = objects_few t.registrations t.late items are in let few = h.registered in omega (arith, many, few)
+    turns_fewer ShortKeyWords kept aside off = λ items are. let many = objects_few scope.registrations t.registrations t.late items are in let few = h.registered in omega (arith, many, few)
     turns_fewer Objects kept aside off = λ items is. let same = ap length is in omega (arith, same)
     turns_fewer Children kept aside off = λ items are. let few = rows_begin items are in omega (arith, few)
     turns_fewer Again kept aside off = λ items turned. let same = length_permutation kept items turned.0 in omega (arith, same)
@@ -347,22 +454,22 @@ module _ (r s g es el sc l : ℕ) where
     turns_fewer ShortHolders kept aside off = λ items are. let many = links_few t.long items are in let few = h.long in omega (arith, many, few)
     turns_fewer LongHolders kept aside off = λ items are. let many = links_few t.ephemerons.short items are in let few = h.short_keys in omega (arith, many, few)
     turns_fewer ShortKeyHolders kept aside off = λ items are. let many = links_few t.ephemerons.long items are in let few = h.long_keys in omega (arith, many, few)
-    turns_fewer LongKeyHolders kept aside off = λ items are. let few = cleanups_few Long l t.cleanups items h.attached.1 are in omega (arith, few)
+    turns_fewer LongKeyHolders kept aside off = λ items are. let few = cleanups_few scope.cleanups Long l t.cleanups items h.attached.1 are in omega (arith, few)
     turns_fewer LongCleanups kept aside off = tt
 
-  goes_fewer : (phase : Phase) (k : Going) (last : Option Phase) (m : Going) → GoesOn phase k last m → IsFit k.finalizers → IsFit m.finalizers × (to_come_in last m ≤ to_come_in (Some phase) k)
+  goes_fewer : {scope : Scope} (phase : Phase) (k : Going) (last : Option Phase) (m : Going) → GoesOn scope phase k last m → IsFit k.finalizers → IsFit m.finalizers × (to_come_in last m ≤ to_come_in (Some phase) k)
   goes_fewer phase k last m (Asks item left some) h = skip_fewer phase k h
-  goes_fewer phase k last m (Turns {next = next} {h = n} none turns begins rest) h =
+  goes_fewer {scope = scope} phase k last m (Turns {next = next} {h = n} none turns begins rest) h =
       let past = skip_fewer phase k h in
       let p = skip phase k in
       let on = goes_fewer next n last m rest (subst IsFit (sym begins.same) past.0) in
-      let turn : to_come (Some next) 0 (length n.left) (length (aside_in next p.kept p.aside)) (length (off_in next p.off)) ≤ to_come (Some phase) (length p.kept) 0 (length p.aside) (length p.off) =
-      subst (IsFewer p.finalizers past.0 phase p.kept p.aside p.off) turns (turns_fewer p.finalizers past.0 phase p.kept p.aside p.off) n.left begins.lists in
-      let here : to_come_in (Some next) n ≤ to_come (Some phase) (length p.kept) 0 (length p.aside) (length p.off) =
-      subst (λ (x : Going). to_come_in (Some next) x ≤ to_come (Some phase) (length p.kept) 0 (length p.aside) (length p.off))
+      let turn : to_come (Some next) 0 (length n.left) (length (aside_in next p.kept p.aside)) (size_of (off_in next p.off)) ≤ to_come (Some phase) (length p.kept) 0 (length p.aside) (size_of p.off) =
+      subst (IsFewer scope p.finalizers past.0 phase p.kept p.aside p.off) turns (turns_fewer scope p.finalizers past.0 phase p.kept p.aside p.off) n.left begins.lists in
+      let here : to_come_in (Some next) n ≤ to_come (Some phase) (length p.kept) 0 (length p.aside) (size_of p.off) =
+      subst (λ (x : Going). to_come_in (Some next) x ≤ to_come (Some phase) (length p.kept) 0 (length p.aside) (size_of p.off))
       (λ i. record { finalizers = n.finalizers; kept = sym begins.none i; left = n.left; aside = sym begins.aside i; off = sym begins.off i }) turn in
-      let there : to_come (Some phase) (length p.kept) 0 (length p.aside) (length p.off) ≤ to_come_in (Some phase) k =
-      subst (λ (xs : List Item). to_come (Some phase) (length p.kept) (length xs) (length p.aside) (length p.off) ≤ to_come_in (Some phase) k) none past.1 in
+      let there : to_come (Some phase) (length p.kept) 0 (length p.aside) (size_of p.off) ≤ to_come_in (Some phase) k =
+      subst (λ (xs : List Item). to_come (Some phase) (length p.kept) (length xs) (length p.aside) (size_of p.off) ≤ to_come_in (Some phase) k) none past.1 in
       let all = on.1 in
       (on.0, omega (arith, all, here, there))
   goes_fewer phase k last m (Ends none turns) h = let past = skip_fewer phase k h in (past.0, omega arith)
@@ -370,7 +477,7 @@ module _ (r s g es el sc l : ℕ) where
   -- ---- a run
 
   abbrev to_come_at : Machine → ℕ
-  to_come_at m = to_come m.phase (length m.walk.kept) (length m.walk.left) (length m.walk.aside) (length m.walk.off)
+  to_come_at m = to_come m.phase (length m.walk.kept) (length m.walk.left) (length m.walk.aside) (size_of m.walk.off)
 
   abbrev all_to_come : ℕ
   all_to_come = most e + behind_them First 0
@@ -379,6 +486,7 @@ module _ (r s g es el sc l : ℕ) where
     within : IsFit m.finalizers.state
     few : n + to_come_at m ≤ all_to_come
     asked : (p : Phase) → m.phase ≡ Some p → covered m ≤ length m.walk.left
+    some : (moment : Moment) → m.phase ≡ Some (Values moment) → 0 < length m.walk.left
 
   asked_for : (m : Machine) (next : Next) → Tells m next → (p : Phase) → m.phase ≡ Some p → covered m ≤ length m.walk.left
   asked_for m (told.Asks question) (phase, was, inl items) p at =
@@ -403,6 +511,19 @@ module _ (r s g es el sc l : ℕ) where
       let there = subst (IsFit) (sym (work_apart 0 [] t u event work follows)) (record { registered = h.registered; short = h.short; long = h.long; short_keys = h.short_keys; long_keys = h.long_keys; attached = h.attached }) in
       record { registered = there.registered; short = there.short; long = there.long; short_keys = there.short_keys; long_keys = there.long_keys; attached = there.attached }
 
+  -- what the host tells leaves no more to come, since it does so while a value is asked about
+  values_told : (key : ℕ) (moment : Moment) (kept left aside : ℕ) (was now : PutOff) → TellsOff key was now → 0 < left → to_come (Some (Values moment)) kept left aside (size_of now) ≤ to_come (Some (Values moment)) kept left aside (size_of was)
+  values_told key moment kept zero aside was now tells some = absurd (omega (arith, some))
+  values_told key moment kept (suc left) aside was now tells some =
+      let same = length_permutation (all_off was) (all_off now) (tells_moves key was now tells) in
+      let rest = ap most same in
+      omega (arith, same, rest)
+
+  told_fewer : (key : ℕ) (phase : Option Phase) (kept left aside : ℕ) (was now : PutOff) → TellsIn phase key was now → ((moment : Moment) → phase ≡ Some (Values moment) → 0 < left)
+      → to_come phase kept left aside (size_of now) ≤ to_come phase kept left aside (size_of was)
+  told_fewer key (Some (Values moment)) kept left aside was now tells some = values_told key moment kept left aside was now tells (some moment refl)
+  told_fewer key phase kept left aside was now tells some = let same = ap (λ (off : PutOff). to_come phase kept left aside (size_of off)) tells in omega (arith, same)
+
   heard : (begun m : Machine) (n : ℕ) → IsHearing 0 begun → Hears begun m n → IsHearing n m
   heard begun m n h Begun = h
   heard begun m n h (Goes {m = old} {next = next} {n = before} answers few goes hears) =
@@ -410,10 +531,15 @@ module _ (r s g es el sc l : ℕ) where
       let asked = was.asked goes.phase goes.was in
       let stepped = steps_fewer goes.phase answers old.finalizers.state old.walk.kept old.walk.left old.walk.aside old.walk.off was.within (omega (arith, few, asked)) in
       let on = goes_fewer goes.phase (steps goes.phase answers (going old.finalizers old.walk)) m.phase (going m.finalizers m.walk) goes.goes stepped.0 in
-      let so_far = subst (λ o. before + to_come o (length old.walk.kept) (length old.walk.left) (length old.walk.aside) (length old.walk.off) ≤ all_to_come) goes.was was.few in
+      let so_far = subst (λ o. before + to_come o (length old.walk.kept) (length old.walk.left) (length old.walk.aside) (size_of old.walk.off) ≤ all_to_come) goes.was was.few in
       let here = stepped.1 in
       let there = on.1 in
-      record { within = on.0; few = omega (arith, so_far, here, there); asked = asked_for m next goes.tells }
+      record {
+        within = on.0;
+        few = omega (arith, so_far, here, there);
+        asked = asked_for m next goes.tells;
+        some = λ moment at. let first = stops goes.phase (steps goes.phase answers (going old.finalizers old.walk)) m.phase (going m.finalizers m.walk) goes.goes (Values moment) at in some_left m.walk.left first.0 first.1;
+      }
   heard begun m n h (Meanwhile {m = old} worked hears) =
       let was = heard begun old n h hears in
       let now = worked_within old.finalizers.state m.finalizers.state worked.event worked.work worked.follows was.within in
@@ -422,13 +548,24 @@ module _ (r s g es el sc l : ℕ) where
         few = subst (λ (k : Machine). n + to_come_at k ≤ all_to_come) (sym worked.keeps) was.few;
         asked = λ p at. subst (λ k. k ≤ length m.walk.left) (sym (still_covered old m worked.event worked.work worked.follows worked.keeps))
             (subst (λ xs. covered old ≤ length xs) (sym (ap (λ (k : Machine). k.walk.left) worked.keeps)) (was.asked p (sym (ap (λ (k : Machine). k.phase) worked.keeps) ∙ at)));
+        some = λ moment at. subst (λ xs. 0 < length xs) (sym (ap (λ (k : Machine). k.walk.left) worked.keeps)) (was.some moment (sym (ap (λ (k : Machine). k.phase) worked.keeps) ∙ at));
+      }
+  heard begun m n h (Told {m = old} key tells hears) =
+      let was = heard begun old n h hears in
+      let so_far = was.few in
+      let less = told_fewer key old.phase (length old.walk.kept) (length old.walk.left) (length old.walk.aside) old.walk.off m.walk.off tells.off was.some in
+      record {
+        within = subst (λ (k : Machine). IsFit k.finalizers.state) (sym tells.same) was.within;
+        few = subst (λ (k : Machine). n + to_come_at k ≤ all_to_come) (sym tells.same) (omega (arith, so_far, less));
+        asked = λ p at. subst (λ (k : Machine). covered k ≤ length k.walk.left) (sym tells.same) (was.asked p (sym (ap (λ (k : Machine). k.phase) tells.same) ∙ at));
+        some = λ moment at. subst (λ (k : Machine). 0 < length k.walk.left) (sym tells.same) (was.some moment (sym (ap (λ (k : Machine). k.phase) tells.same) ∙ at));
       }
 
 none_before : (a b : ℕ) → a ≤ b → 0 + a ≤ b
 none_before a b le = omega (arith, le)
 
 pub passes_end : PassesEnd
-passes_end old begun m n is hears =
+passes_end from old begun m n is hears =
     let t = old.finalizers.state in
     let r = len t.registrations in
     let s = len t.short in
@@ -440,15 +577,16 @@ passes_end old begun m n is hears =
     let l = kinds.1 in
     let fit : IsFit r s g es el sc l t = record { registered = omega arith; short = omega arith; long = omega arith; short_keys = omega arith; long_keys = omega arith; attached = (kinds.2, kinds.3) } in
     let listed : AreEphemerons t.ephemerons begun.walk.left = subst (λ (u : State). AreEphemerons u.ephemerons begun.walk.left) is.finalizers is.begins.lists in
-    let few = rows_begin r s g es el sc l t fit begun.walk.left listed in
-    let first : to_come r s g es el sc l (Some (Keys First)) 0 (length begun.walk.left) 0 0 ≤ all_to_come r s g es el sc l = omega (arith, few) in
+    let few = rows_begin r s g es el sc l (machines.scope begun) t fit begun.walk.left listed in
+    let first : to_come r s g es el sc l (Some (Keys First)) 0 (length begun.walk.left) 0 (size_of none_off) ≤ all_to_come r s g es el sc l = omega (arith, few) in
     let start : IsHearing r s g es el sc l 0 begun = record {
       within = subst (IsFit r s g es el sc l) (sym is.finalizers) (record { registered = omega arith; short = omega arith; long = omega arith; short_keys = omega arith; long_keys = omega arith; attached = (kinds.2, kinds.3) });
-      few = subst (λ o. 0 + to_come r s g es el sc l o (length begun.walk.kept) (length begun.walk.left) (length begun.walk.aside) (length begun.walk.off) ≤ all_to_come r s g es el sc l) (sym is.phase)
-          (none_before (to_come r s g es el sc l (Some (Keys First)) (length begun.walk.kept) (length begun.walk.left) (length begun.walk.aside) (length begun.walk.off)) (all_to_come r s g es el sc l)
+      few = subst (λ o. 0 + to_come r s g es el sc l o (length begun.walk.kept) (length begun.walk.left) (length begun.walk.aside) (size_of begun.walk.off) ≤ all_to_come r s g es el sc l) (sym is.phase)
+          (none_before (to_come r s g es el sc l (Some (Keys First)) (length begun.walk.kept) (length begun.walk.left) (length begun.walk.aside) (size_of begun.walk.off)) (all_to_come r s g es el sc l)
           (subst (λ (k : Going). to_come_in r s g es el sc l (Some (Keys First)) k ≤ all_to_come r s g es el sc l)
           (λ i. record { finalizers = t; kept = sym is.begins.none i; left = begun.walk.left; aside = sym is.begins.aside i; off = sym is.begins.off i }) first));
       asked = λ p at. let none = is.asked in let no_items = ap (λ rs. length (items_in begun.finalizers.state rs)) is.regions in omega (arith, none, no_items);
+      some = λ moment at. absurd (not_values moment (sym is.phase ∙ at));
     } in
     let end = (heard r s g es el sc l begun m n start hears).few in
     let product = most_is (es + el) in

@@ -11,13 +11,14 @@ use Rattle.fz_finalizers.specs.States.{State}
 use Rattle.fz_machine.specs.declared.item.Item.{Item}
 use Rattle.fz_machine.specs.declared.phase.Phase.TheVariants.{Objects}
 use Rattle.fz_machine.specs.Going.{HasRoomToKeep}
+use Rattle.fz_machine.specs.Off.{PutOff}
 use Rattle.fz_machine.specs.Regions.{Regions, place_in, region_of, objects_in, items_of, items_in, marks_say}
 use Rattle.fz_machine.specs.Steps.{Going, steps}
 use Rattle.fz_machine.specs.Walks.{Walk}
 use Rattle.fz_machine.proofs.Marked.{says_none, steps_marks}
 use Rattle.fz_machine.proofs.Places.{object_back}
 
-abbrev pub at : State → List Item → List Item → List Item → List Item → Going
+abbrev pub at : State → List Item → PutOff → List Item → List Item → Going
 at s aside off kept left = record { finalizers = s; kept = kept; left = left; aside = aside; off = off }
 
 -- the items of the region to process next have room
@@ -33,7 +34,7 @@ fits_first s walk regions r first room = by regions.left first room
         subst (λ (x : ℕ × ℕ). length walk.kept + length (items_of s (objects_in x)) ≤ walk.room) (same_Some q r at) (omega (arith, few, long))
 
 -- the first of the regions that were asked about
-pub heard_one : (s : State) (aside off kept new : List Item) (r : ℕ × ℕ) (rs : List (ℕ × ℕ)) (others : List Item) (word asked : ℕ) (words : List ℕ) → 0 < asked
+pub heard_one : (s : State) (aside : List Item) (off : PutOff) (kept new : List Item) (r : ℕ × ℕ) (rs : List (ℕ × ℕ)) (others : List Item) (word asked : ℕ) (words : List ℕ) → 0 < asked
     → new ≡ kept ++ filter (λ (item : Item). not (has_bit word (place_in item.object))) (items_of s (objects_in r))
     → steps Objects (marks_say s (take asked (r ∷ rs)) (word ∷ words)) (at s aside off kept (items_in s (r ∷ rs) ++ others)) ≡ steps Objects (marks_say s (take (asked - 1) rs) words) (at s aside off new (items_in s rs ++ others))
 heard_one s aside off kept new r rs others word zero words some is = absurd (omega (arith, some))

@@ -11,9 +11,10 @@ use Rattle.fz_finalizers.specs.States.{State}
 use Rattle.fz_machine.specs.declared.item.Item.{Item}
 use Rattle.fz_machine.specs.declared.phase.Phase.TheVariants.{Objects}
 use Rattle.fz_machine.specs.Graph.{AreHonestWords, Graph, IsHonestWord, graph_of}
+use Rattle.fz_machine.specs.Off.{PutOff}
 use Rattle.fz_machine.specs.Phases.{is_objects}
 use Rattle.fz_machine.specs.Regions.{items_in, items_of, item_at, marks_say, objects_in, place_in, places}
-use Rattle.fz_machine.specs.Runs.{AreHonest, WordsAreAnswers}
+use Rattle.fz_machine.specs.Runs.{AreHonest, WordsAreAnswers, YoungWordsAreAnswers}
 use Rattle.fz_machine.proofs.Among.{Each}
 use Rattle.fz_machine.proofs.Begun.{HasBegun, registered}
 use Rattle.fz_machine.proofs.Cleaning.{after_due}
@@ -22,7 +23,7 @@ use Rattle.fz_machine.proofs.Marked.{item_is, places_below}
 use Rattle.fz_machine.proofs.Opening.{IsFollowing, IsIn, IsOpening, begin_found}
 use Rattle.fz_machine.proofs.Phased as phased
 use Rattle.fz_machine.proofs.Places.{place_back}
-use Rattle.fz_machine.proofs.Ran.{where_it_is}
+use Rattle.fz_machine.proofs.Ran.{none_old, where_it_is}
 use Rattle.fz_machine.proofs.Rounds as rounds
 use Rattle.fz_machine.proofs.Working.{apart}
 
@@ -75,24 +76,28 @@ module _ (E : Type 0) (word_of : ℕ → Option ℕ) (value : Map Object → ℕ
       one : (r : Registration) → get b.registrations item.object ≡ Some r → IsTrue (contains_key h.objects item.object)
       one r here = subst (λ m. IsTrue (contains_key m item.object)) (sym is) (registered E word_of value b before begin item.object r here)
 
-module _ (E : Type 0) (word_of : ℕ → Option ℕ) (value : Map Object → ℕ → Option ℕ) (b : State) (before : Graph) (begin : HasBegun word_of b before) (s : State) (kept left aside off : List Item) (h : Graph) where
+module _ (E : Type 0) (word_of : ℕ → Option ℕ) (value : Map Object → ℕ → Option ℕ) (b : State) (before : Graph) (begin : HasBegun word_of b before) (s : State) (kept left aside : List Item) (off : PutOff) (h : Graph) where
   -- registered objects are asked about only behind the round over short cleanups
   in_rounds : rounds.IsIn E word_of value b before Objects s kept left aside off h → AllThere h left
   in_rounds = ⊎_elim (λ (q : rounds.IsFirst E word_of value b before Objects s left h). absurd (true≢false (ap is_objects q.0)))
       (λ (q : rounds.IsBehind E word_of value b before Objects s kept left aside off h).
       each_there E word_of value (after_due b q.0) before (rounds.begin_behind E word_of value b before begin q.0) h q.2.objects_are left q.2.sifted.left_are)
 
-module _ (E : Type 0) (word_of : ℕ → Option ℕ) (value : Map Object → ℕ → Option ℕ) (b : State) (before : Graph) (begin : HasBegun word_of b before) (s : State) (kept left aside off : List Item) (h : Graph) where
+module _ (E : Type 0) (word_of : ℕ → Option ℕ) (value : Map Object → ℕ → Option ℕ) (b : State) (before : Graph) (begin : HasBegun word_of b before) (s : State) (kept left aside : List Item) (off : PutOff) (h : Graph) where
   -- and only once the marks are whole
   all_there : IsIn E word_of value b before Objects s kept left aside off h → AllThere h left
   all_there = ⊎_elim (λ (q : IsOpening E word_of value b before Objects s kept left off h). absurd q.0)
       (λ (q : IsFollowing E word_of value b before Objects s kept left aside off h).
       in_rounds E word_of value b (graph_of before.objects q.0) (begin_found E word_of value b before begin q.0 q.1) s kept left aside off h q.2)
 
-pub words_are_answers : (E : Type 0) → WordsAreAnswers E
-words_are_answers E word_of value old begun m past before g question words reached is may_begin runs at asks honest =
-    let w = where_it_is E word_of value old begun m past before g reached is may_begin runs in
+pub young_words_are_answers : (E : Type 0) → YoungWordsAreAnswers E
+young_words_are_answers E from word_of value old begun m past before g question words reached is may_begin seen runs at asks honest =
+    let w = where_it_is E word_of value from old begun m past before g reached is may_begin seen runs in
     let there = all_there E word_of value w.0 before w.1 (apart w.0.taken w.0.held m.finalizers.state) m.walk.kept m.walk.left m.walk.aside m.walk.off g (w.2 Objects at) in
     let whole = asks.first.1 in
     subst (λ xs. AreHonest E word_of value Objects (marks_say m.finalizers.state m.regions words) xs g g) (sym whole)
     (all_regions E word_of value g m.finalizers.state m.regions words asks.first.0 asks.begin (subst (AllThere g) whole there) honest)
+
+pub words_are_answers : (E : Type 0) → WordsAreAnswers E
+words_are_answers E word_of value old begun m past before g question words reached is may_begin runs at asks honest =
+    young_words_are_answers E 0 word_of value old begun m past before g question words reached is may_begin (none_old old.finalizers.state before) runs at asks honest

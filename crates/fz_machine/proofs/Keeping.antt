@@ -26,7 +26,9 @@ use Rattle.fz_machine.specs.declared.phase.Phase.TheVariants.{Keys, KeysAgain, H
 use Rattle.fz_machine.specs.declared.question.Ask.TheVariants.{MarkAlone}
 use Rattle.fz_machine.specs.Graph.{Graph, IsHonest}
 use Rattle.fz_machine.specs.Items.{of_other, place_of}
-use Rattle.fz_machine.specs.Phases.{after, asks, child_ask, keeps, pick_ask, puts_off, subject, without_key}
+use Rattle.fz_machine.specs.Machines.{TellsIn}
+use Rattle.fz_machine.specs.Off.{PutOff, put_off}
+use Rattle.fz_machine.specs.Phases.{after, asks, child_ask, keeps, pick_ask, subject, without_key}
 use Rattle.fz_machine.proofs.Among.{AreInOrder, OneOf, each_push, one_last, one_left, order_after, order_without}
 use Rattle.fz_machine.proofs.Begun.{HasBegun, births, late_led, late_starts, late_there, normal, only_long, only_short, others_led, registered, starts}
 use Rattle.fz_machine.proofs.Cleaning.{cleaning_on}
@@ -39,7 +41,7 @@ use Rattle.fz_machine.proofs.Phasing.{clears_on, holds_on, kept_on, sifts_on}
 use Rattle.fz_machine.proofs.DeadWords.{remove_none, retained_before, retained_none}
 use Rattle.fz_machine.proofs.Sifting.{IsAt}
 use Rattle.fz_machine.proofs.Stated.{queued_none, queued_on, state_with, tabled, with_keys}
-use Rattle.fz_machine.proofs.Waiting.{looks_on}
+use Rattle.fz_machine.proofs.Waiting.{looks_on, looks_told}
 
 not_late_kind : (kind : RegKind) → is_late (of_table false kind) ≡ false
 not_late_kind table.Normal = refl
@@ -263,19 +265,31 @@ module _ (E : Type 0) (word_of : ℕ → Option ℕ) (value : Map Object → ℕ
 
   -- ---- while the marks become whole
 
-  settles_on : (moment : Moment) (phase : Phase) (s : State) (kept left aside off : List Item) (item : Item) (h new : Graph) → IsSettling E word_of value b before moment phase s kept (item ∷ left) aside off h → (answer : Bool)
+  settles_on : (moment : Moment) (phase : Phase) (s : State) (kept left aside : List Item) (off : PutOff) (item : Item) (h new : Graph) → IsSettling E word_of value b before moment phase s kept (item ∷ left) aside off h → (answer : Bool)
       → IsHonest E word_of value (asks phase item) (subject phase item) h answer new
-      → IsSettling E word_of value b before moment phase s (kept_on (keeps phase item answer) kept item) left aside (kept_on (puts_off phase answer) off item) new
+      → IsSettling E word_of value b before moment phase s (kept_on (keeps phase item answer) kept item) left aside (put_off phase item answer off) new
   settles_on moments.First phase s kept left aside off item h new p answer honest = absurd p
   settles_on moments.Led phase s kept left aside off item h new (w, p) answer honest = (w, looks_on E word_of value clearly (judged E word_of value b before) w.marked phase kept left off item h new p answer honest)
   settles_on moments.Picked phase s kept left aside off item h new (w, p) answer honest = (w, looks_on E word_of value clearly (judged E word_of value b before) w.marked phase kept left off item h new p answer honest)
   settles_on moments.Last phase s kept left aside off item h new (w, p) answer honest = (w, looks_on E word_of value clearly (judged E word_of value b before) w.marked phase kept left off item h new p answer honest)
 
+  -- the host tells a key
+  settles_told : (key : ℕ) (moment : Moment) (phase : Phase) (s : State) (kept left aside : List Item) (older newer : PutOff) (h : Graph) → TellsIn (Some phase) key older newer → IsSettling E word_of value b before moment phase s kept left aside older h
+      → IsSettling E word_of value b before moment phase s kept left aside newer h
+  settles_told key moments.First phase s kept left aside older newer h tells p = absurd p
+  settles_told key moments.Led phase s kept left aside older newer h tells (w, p) = (w, looks_told E word_of value clearly (judged E word_of value b before) w.marked key phase kept left older newer h tells p)
+  settles_told key moments.Picked phase s kept left aside older newer h tells (w, p) = (w, looks_told E word_of value clearly (judged E word_of value b before) w.marked key phase kept left older newer h tells p)
+  settles_told key moments.Last phase s kept left aside older newer h tells (w, p) = (w, looks_told E word_of value clearly (judged E word_of value b before) w.marked key phase kept left older newer h tells p)
+
   -- ---- all phases
 
-  pub keep : (phase : Phase) (s : State) (kept left aside off : List Item) (item : Item) (h new : Graph) → IsIn E word_of value b before phase s kept (item ∷ left) aside off h → (answer : Bool)
+  pub told : (key : ℕ) (phase : Phase) (s : State) (kept left aside : List Item) (older newer : PutOff) (h : Graph) → TellsIn (Some phase) key older newer → IsIn E word_of value b before phase s kept left aside older h → IsIn E word_of value b before phase s kept left aside newer h
+  told key (Values moment) s kept left aside older newer h tells p = settles_told key moment (Values moment) s kept left aside older newer h tells p
+  told key phase s kept left aside older newer h tells p = subst (λ (off : PutOff). IsIn E word_of value b before phase s kept left aside off h) (sym tells) p
+
+  pub keep : (phase : Phase) (s : State) (kept left aside : List Item) (off : PutOff) (item : Item) (h new : Graph) → IsIn E word_of value b before phase s kept (item ∷ left) aside off h → (answer : Bool)
       → IsHonest E word_of value (asks phase item) (subject phase item) h answer new
-      → IsIn E word_of value b before phase (after phase item answer s) (kept_on (keeps phase item answer) kept item) left aside (kept_on (puts_off phase answer) off item) new
+      → IsIn E word_of value b before phase (after phase item answer s) (kept_on (keeps phase item answer) kept item) left aside (put_off phase item answer off) new
   keep (Keys moment) s kept left aside off item h new p answer honest = settles_on moment (Keys moment) s kept left aside off item h new p answer honest
   keep (KeysAgain moment) s kept left aside off item h new p answer honest = settles_on moment (KeysAgain moment) s kept left aside off item h new p answer honest
   keep (Holders moment) s kept left aside off item h new p answer honest = settles_on moment (Holders moment) s kept left aside off item h new p answer honest

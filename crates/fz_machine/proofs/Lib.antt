@@ -1,4 +1,5 @@
 pub mod Kept
+pub mod Index
 pub mod Listed
 pub mod Numbered
 pub mod Gathered
@@ -23,6 +24,7 @@ pub mod Sifting
 pub mod DeadWords
 pub mod Entered
 pub mod Ordered
+pub mod Younger
 pub mod Led
 pub mod Chosen
 pub mod Due
@@ -30,6 +32,8 @@ pub mod Stated
 pub mod Phasing
 pub mod Choosing
 pub mod Cleaning
+pub mod Delayed
+pub mod Told
 pub mod Waiting
 pub mod Phased
 pub mod Begun

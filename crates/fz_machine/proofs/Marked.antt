@@ -14,6 +14,7 @@ use Rattle.fz_finalizers.specs.States.{State}
 use Rattle.fz_machine.specs.declared.item.Item.{Item}
 use Rattle.fz_machine.specs.declared.phase.Phase.TheVariants.{Objects}
 use Rattle.fz_machine.specs.Items.{of_late, of_other}
+use Rattle.fz_machine.specs.Off.{PutOff}
 use Rattle.fz_machine.specs.Regions.{place_in, places, objects_in, item_at, items_of, marks_say}
 use Rattle.fz_machine.specs.Steps.{steps}
 use Rattle.fz_machine.proofs.Places.{in_both, no_places, place_back, places_without, set_here, set_other, without}
@@ -136,7 +137,7 @@ module _ (s : State) (word : ℕ) where
   kept_too kept item items true = append_assoc kept (item ∷ []) items
   kept_too kept item items false = refl
 
-  pub steps_marks : (aside off items more kept : List Item) (answers : List Bool)
+  pub steps_marks : (aside : List Item) (off : PutOff) (items more kept : List Item) (answers : List Bool)
       → steps Objects (map (λ (item : Item). has_bit word (place_in item.object)) items ++ answers) (record { finalizers = s; kept = kept; left = items ++ more; aside = aside; off = off }) ≡ steps Objects answers (record { finalizers = s; kept = kept ++ filter stays items; left = more; aside = aside; off = off })
   steps_marks aside off [] more kept answers = ap (λ xs. steps Objects answers (record { finalizers = s; kept = xs; left = more; aside = aside; off = off })) (sym (append-nil kept))
   steps_marks aside off (item ∷ items) more kept answers =

@@ -1,5 +1,5 @@
 -- What holds in each phase of a pass: first while the marks become whole, and then in a pass over the graph in which they are.
-use Rattle.std.proofs.Common.{◌≡◌, ◌⊎◌, ◌∷◌, [], ℕ, Bool, List, Option, Some, None, refl, sym, subst, ◌∙◌, inl, inr, ⊎_elim}
+use Rattle.std.proofs.Common.{◌≡◌, ◌⊎◌, ◌∷◌, [], ℕ, Bool, true, false, List, Option, Some, None, refl, sym, subst, ◌∙◌, inl, inr, ⊎_elim}
 use Rattle.fz_model.specs.declared.kinds.LinkKind.TheVariants.{Short}
 use Rattle.fz_model.specs.State.{Map, Object}
 use Rattle.fz_pass.specs.Holds.{IsOfKey, Settles, no_ephemerons}
@@ -12,11 +12,13 @@ use Rattle.fz_machine.specs.declared.phase.Phase.{Phase}
 use Rattle.fz_machine.specs.declared.phase.Phase.TheVariants.{Keys, KeysAgain, Holders, Values, ShortCleanups}
 use Rattle.fz_machine.specs.Graph.{Graph, IsHonest, graph_of}
 use Rattle.fz_machine.specs.Items.{AreCleanups, AreEphemerons}
-use Rattle.fz_machine.specs.Phases.{Lists, after, aside_in, asks, given, keeps, next_phase, off_in, puts_off, subject}
+use Rattle.fz_machine.specs.Machines.{TellsIn}
+use Rattle.fz_machine.specs.Off.{PutOff, looks_again, none_off, put_off}
+use Rattle.fz_machine.specs.Phases.{Scope, Lists, after, aside_in, asks, given, keeps, next_phase, off_in, subject}
 use Rattle.fz_machine.proofs.Begun.{HasBegun}
 use Rattle.fz_machine.proofs.Phasing.{kept_on}
 use Rattle.fz_machine.proofs.Rounds as rounds
-use Rattle.fz_machine.proofs.Waiting.{Looks, is_settled, looks_begin, looks_on, to_holders, to_keys, to_values}
+use Rattle.fz_machine.proofs.Waiting.{Looks, is_settled, looks_begin, looks_on, looks_told, to_holders, to_keys, to_values}
 
 -- the phases that make the marks whole before everything else
 abbrev pub IsOfFirst : Phase → Type 0
@@ -35,10 +37,10 @@ opening_stays (Values moment) item answer s at = refl
 opening_stays phase item answer s at = absurd at
 
 module _ (E : Type 0) (word_of : ℕ → Option ℕ) (value : Map Object → ℕ → Option ℕ) (b : State) (before : Graph) where
-  abbrev LooksFirst : Phase → List Item → List Item → List Item → Graph → Type 0
+  abbrev LooksFirst : Phase → List Item → List Item → PutOff → Graph → Type 0
   LooksFirst = Looks E word_of value before.objects b.ephemerons before.marked
 
-  abbrev pub IsOpening : Phase → State → List Item → List Item → List Item → Graph → Type 0
+  abbrev pub IsOpening : Phase → State → List Item → List Item → PutOff → Graph → Type 0
   IsOpening phase s kept left off h = IsOfFirst phase × (s ≡ b) × LooksFirst phase kept left off h
 
   -- what the marked objects hold is found; without ephemerons nothing else is
@@ -46,27 +48,27 @@ module _ (E : Type 0) (word_of : ℕ → Option ℕ) (value : Map Object → ℕ
     pub settled : Settles word_of value before.objects (IsOfKey b.ephemerons) E before.marked found
     pub none : b.ephemerons ≡ no_ephemerons → found ≡ before.marked
 
-  abbrev pub IsFollowing : Phase → State → List Item → List Item → List Item → List Item → Graph → Type 0
+  abbrev pub IsFollowing : Phase → State → List Item → List Item → List Item → PutOff → Graph → Type 0
   IsFollowing phase s kept left aside off h = (found : ℕ → Bool) × IsFound found × rounds.IsIn E word_of value b (graph_of before.objects found) phase s kept left aside off h
 
-  abbrev pub IsIn : Phase → State → List Item → List Item → List Item → List Item → Graph → Type 0
+  abbrev pub IsIn : Phase → State → List Item → List Item → List Item → PutOff → Graph → Type 0
   IsIn phase s kept left aside off h = IsOpening phase s kept left off h ⊎ IsFollowing phase s kept left aside off h
 
   abbrev pub IsAtEnd : State → Graph → Type 0
   IsAtEnd s h = (found : ℕ → Bool) × IsFound found × rounds.IsAtEnd E word_of value b (graph_of before.objects found) s h
 
   -- the next phase, whatever it lists, or the end
-  abbrev pub IsAfter : Option Phase → State → List Item → List Item → List Item → Graph → Type 0
-  IsAfter None s kept aside off h = IsAtEnd s h
-  IsAfter (Some p) s kept aside off h = (items : List Item) → Lists p s (given p kept aside off) items → IsIn p s [] items (aside_in p kept aside) (off_in p off) h
+  abbrev pub IsAfter : Scope → Option Phase → State → List Item → List Item → PutOff → Graph → Type 0
+  IsAfter scope None s kept aside off h = IsAtEnd s h
+  IsAfter scope (Some p) s kept aside off h = (items : List Item) → Lists p scope s (given p kept aside off) items → IsIn p s [] items (aside_in p kept aside) (off_in p off) h
 
   -- where it asks, or at the end
-  abbrev pub IsWhere : Option Phase → State → List Item → List Item → List Item → List Item → Graph → Type 0
+  abbrev pub IsWhere : Option Phase → State → List Item → List Item → List Item → PutOff → Graph → Type 0
   IsWhere None s kept left aside off h = IsAtEnd s h
   IsWhere (Some p) s kept left aside off h = IsIn p s kept left aside off h
 
   module _ (begin : HasBegun word_of b before) where
-    pub begin_found : (found : ℕ → Bool) → IsFound found → HasBegun word_of b (graph_of before.objects found)
+    abbrev pub begin_found : (found : ℕ → Bool) → IsFound found → HasBegun word_of b (graph_of before.objects found)
     begin_found found is = record {
       may = record {
         registered = begin.registered;
@@ -82,45 +84,58 @@ module _ (E : Type 0) (word_of : ℕ → Option ℕ) (value : Map Object → ℕ
       };
       flags = begin.flags;
       single = begin.single;
+      scope = begin.scope;
+      seen = record {
+        registered = λ object r here lt. is.settled.more object (begin.seen.registered object r here lt);
+        attached = λ number c here lt. is.settled.more c.object (begin.seen.attached number c here lt);
+      };
     }
 
-    pub keep : (phase : Phase) (s : State) (kept left aside off : List Item) (item : Item) (h new : Graph) → IsIn phase s kept (item ∷ left) aside off h → (answer : Bool)
+    pub keep : (phase : Phase) (s : State) (kept left aside : List Item) (off : PutOff) (item : Item) (h new : Graph) → IsIn phase s kept (item ∷ left) aside off h → (answer : Bool)
         → IsHonest E word_of value (asks phase item) (subject phase item) h answer new
-        → IsIn phase (after phase item answer s) (kept_on (keeps phase item answer) kept item) left aside (kept_on (puts_off phase answer) off item) new
+        → IsIn phase (after phase item answer s) (kept_on (keeps phase item answer) kept item) left aside (put_off phase item answer off) new
     keep phase s kept left aside off item h new p answer honest = ⊎_elim opening following p
       where
-        opening : IsOpening phase s kept (item ∷ left) off h → IsIn phase (after phase item answer s) (kept_on (keeps phase item answer) kept item) left aside (kept_on (puts_off phase answer) off item) new
+        opening : IsOpening phase s kept (item ∷ left) off h → IsIn phase (after phase item answer s) (kept_on (keeps phase item answer) kept item) left aside (put_off phase item answer off) new
         opening (at, is, q) =
             inl (at, opening_stays phase item answer s at ∙ is, looks_on E word_of value before.objects b.ephemerons before.marked phase kept left off item h new q answer honest)
 
-        following : IsFollowing phase s kept (item ∷ left) aside off h → IsIn phase (after phase item answer s) (kept_on (keeps phase item answer) kept item) left aside (kept_on (puts_off phase answer) off item) new
+        following : IsFollowing phase s kept (item ∷ left) aside off h → IsIn phase (after phase item answer s) (kept_on (keeps phase item answer) kept item) left aside (put_off phase item answer off) new
         following (found, is, q) = inr (found, is, rounds.keep E word_of value b (graph_of before.objects found) (begin_found found is) phase s kept left aside off item h new q answer honest)
 
-    -- the marks are whole
-    cleanups_next : (s : State) (aside off more_aside more_off : List Item) (h : Graph) → s ≡ b → LooksFirst (Values First) [] [] off h → (items : List Item) → AreCleanups Short s.cleanups items → IsIn ShortCleanups s [] items more_aside more_off h
-    cleanups_next s aside off more_aside more_off h is q items are =
-        let settled = is_settled E word_of value before.objects b.ephemerons before.marked off h q in
-        let found : IsFound h.marked = record { settled = settled; none = q.settling.none } in
-        inr (h.marked, found, rounds.cleanups_begin E word_of value b (graph_of before.objects h.marked) (begin_found h.marked found) s items h is q.settling.objects_are refl are more_aside more_off)
+    -- the host tells a key
+    pub told : (key : ℕ) (phase : Phase) (s : State) (kept left aside : List Item) (was now : PutOff) (h : Graph) → TellsIn (Some phase) key was now → IsIn phase s kept left aside was h → IsIn phase s kept left aside now h
+    told key phase s kept left aside was now h tells p =
+        ⊎_elim (λ (q : IsOpening phase s kept left was h). inl (q.0, q.1, looks_told E word_of value before.objects b.ephemerons before.marked key phase kept left was now h tells q.2))
+        (λ (q : IsFollowing phase s kept left aside was h). inr (q.0, q.1, rounds.told E word_of value b (graph_of before.objects q.0) (begin_found q.0 q.1) key phase s kept left aside was now h tells q.2)) p
 
-    turn_opening : (phase : Phase) (s : State) (kept aside off : List Item) (h : Graph) → IsOpening phase s kept [] off h → IsAfter (next_phase phase kept) s kept aside off h
+    -- the marks are whole
+    cleanups_next : (s : State) (off : PutOff) (h : Graph) → looks_again off ≡ false → s ≡ b → LooksFirst (Values First) [] [] off h → (items : List Item) → AreCleanups begin.scope.cleanups Short s.cleanups items → IsIn ShortCleanups s [] items [] none_off h
+    cleanups_next s off h over is q items are =
+        let settled = is_settled E word_of value before.objects b.ephemerons before.marked off h over q in
+        let found : IsFound h.marked = record { settled = settled; none = q.settling.none } in
+        inr (h.marked, found, rounds.cleanups_begin E word_of value b (graph_of before.objects h.marked) (begin_found h.marked found) s items h is q.settling.objects_are refl are [] none_off)
+
+    turn_opening : (phase : Phase) (s : State) (kept aside : List Item) (off : PutOff) (h : Graph) → IsOpening phase s kept [] off h → IsAfter begin.scope (next_phase phase (looks_again off)) s kept aside off h
     turn_opening (Keys moment) s kept aside off h (at, is, q) = λ items same. inl (at, is, to_holders E word_of value before.objects b.ephemerons before.marked kept items off h q same)
     turn_opening (KeysAgain moment) s kept aside off h (at, is, q) = λ items same. inl (at, is, to_holders E word_of value before.objects b.ephemerons before.marked kept items off h q same)
     turn_opening (Holders moment) s kept aside off h (at, is, q) = λ items same. inl (at, is, to_values E word_of value before.objects b.ephemerons before.marked kept items off h q same)
-    turn_opening (Values moment) s [] aside off h (at, is, q) =
-        subst (λ (m : Moment). IsAfter (next_phase (Values m) []) s [] aside off h) (sym at) (λ items are. cleanups_next s aside off [] [] h is q items are)
-    turn_opening (Values moment) s (x ∷ kept) aside off h (at, is, q) = λ items same. inl (at, is, to_keys E word_of value before.objects b.ephemerons before.marked (x ∷ kept) items off h q same)
+    turn_opening (Values moment) s kept aside off h (at, is, q) = by (looks_again off) refl
+      where
+        by : (more : Bool) → looks_again off ≡ more → IsAfter begin.scope (next_phase (Values moment) more) s kept aside off h
+        by false over = subst (λ (m : Moment). IsAfter begin.scope (next_phase (Values m) false) s kept aside off h) (sym at) (λ items are. cleanups_next s off h over is q items are)
+        by true again = λ items same. inl (at, is, to_keys E word_of value before.objects b.ephemerons before.marked items off h q same)
     turn_opening phase s kept aside off h (at, is, q) = absurd at
 
-    following_on : (found : ℕ → Bool) → IsFound found → (next : Option Phase) (s : State) (kept aside off : List Item) (h : Graph) → rounds.IsAfter E word_of value b (graph_of before.objects found) next s kept aside off h → IsAfter next s kept aside off h
+    following_on : (found : ℕ → Bool) → IsFound found → (next : Option Phase) (s : State) (kept aside : List Item) (off : PutOff) (h : Graph) → rounds.IsAfter E word_of value b (graph_of before.objects found) begin.scope next s kept aside off h → IsAfter begin.scope next s kept aside off h
     following_on found is None s kept aside off h end = (found, is, end)
     following_on found is (Some p) s kept aside off h on = λ items lists. inr (found, is, on items lists)
 
-    pub turn : (phase : Phase) (s : State) (kept aside off : List Item) (h : Graph) → IsIn phase s kept [] aside off h → IsAfter (next_phase phase kept) s kept aside off h
+    pub turn : (phase : Phase) (s : State) (kept aside : List Item) (off : PutOff) (h : Graph) → IsIn phase s kept [] aside off h → IsAfter begin.scope (next_phase phase (looks_again off)) s kept aside off h
     turn phase s kept aside off h p =
         ⊎_elim (turn_opening phase s kept aside off h)
-        (λ (q : IsFollowing phase s kept [] aside off h). following_on q.0 q.1 (next_phase phase kept) s kept aside off h (rounds.turn E word_of value b (graph_of before.objects q.0) (begin_found q.0 q.1) phase s kept aside off h q.2)) p
+        (λ (q : IsFollowing phase s kept [] aside off h). following_on q.0 q.1 (next_phase phase (looks_again off)) s kept aside off h (rounds.turn E word_of value b (graph_of before.objects q.0) (begin_found q.0 q.1) phase s kept aside off h q.2)) p
 
-    pub opens : (items aside : List Item) (h : Graph) → h ≡ before → AreEphemerons b.ephemerons items → IsIn (Keys First) b [] items aside [] h
+    pub opens : (items aside : List Item) (h : Graph) → h ≡ before → AreEphemerons b.ephemerons items → IsIn (Keys First) b [] items aside none_off h
     opens items aside h is are =
-        subst (λ (x : Graph). IsIn (Keys First) b [] items aside [] x) (sym is) (inl (refl, refl, looks_begin E word_of value before.objects b.ephemerons before.marked items before refl refl begin.closed are))
+        subst (λ (x : Graph). IsIn (Keys First) b [] items aside none_off x) (sym is) (inl (refl, refl, looks_begin E word_of value before.objects b.ephemerons before.marked items before refl refl begin.closed are))

@@ -1,6 +1,6 @@
 -- Cleanups that are listed and sorted are in order.
-use Rattle.std.proofs.Common.{◌≡◌, ◌≢◌, ◌≤◌, ◌<◌, ◌+◌, ◌*◌, ◌^◌, ◌++◌, ◌∷◌, ◌∙◌, [], ℕ, zero, suc, Bool, true, false, cond, List, length, filter, map, set, get_or, Some, All, AllPairs, nat_eq, refl, sym, ap, subst, inl, inr, ⊎_elim, append-nil, arith, IsTrue}
-use Rattle.std.proofs.lemmas.Bool.{both_ways, cases_lt, eq-eqb, eqb-true}
+use Rattle.std.proofs.Common.{◌&&◌, None, nat_le, ◌≡◌, ◌≢◌, ◌≤◌, ◌<◌, ◌+◌, ◌*◌, ◌^◌, ◌++◌, ◌∷◌, ◌∙◌, [], ℕ, zero, suc, Bool, true, false, cond, List, length, filter, map, set, get_or, Some, All, AllPairs, nat_eq, refl, sym, ap, subst, inl, inr, ⊎_elim, append-nil, arith, IsTrue}
+use Rattle.std.proofs.lemmas.Bool.{and_parts, both_ways, cases_lt, eq-eqb, eqb-true}
 use Rattle.std.proofs.lemmas.List.{get_or-map, length-map, map-append, map-set}
 use Rattle.std.proofs.lemmas.List.Elements.{All-filter, All-push, filter-append, filter_passes}
 use Rattle.std.proofs.lemmas.List.Sorted.{All-permutation, Contains-permutation, IsPermutation-map}
@@ -13,6 +13,7 @@ use Rattle.std.specs.Map.{keys_of}
 use Rattle.fz_model.specs.State.{Map}
 use Rattle.fz_model.specs.declared.kinds.LinkKind.{LinkKind}
 use Rattle.fz_model.proofs.KeyedEntries.{listed}
+use Rattle.fz_model.proofs.Maps.{get-retain, retained_back}
 use Rattle.fz_model.proofs.Lists.{contains_at, place_of}
 use Rattle.fz_pass.proofs.Picked.{same_test}
 use Rattle.fz_finalizers.specs.declared.cleanups.Attached.{Attached}
@@ -57,9 +58,9 @@ pub words_more : (b : Bool) (xs : List Item) (x : Item) → x.word < 2 ^ 64 → 
 words_more true xs x lt all = All-push (λ (i : Item). i.word < 2 ^ 64) xs x all lt
 words_more false xs x lt all = all
 
-module _ (when : LinkKind) where
+module _ (from : ℕ) (when : LinkKind) where
   abbrev test : ℕ × Attached → Bool
-  test e = is_when when e.1.cleanup.when
+  test e = nat_le from e.0 && is_when when e.1.cleanup.when
 
   abbrev pub items_of : List (ℕ × Attached) → List Item
   items_of es = map of_cleanup (filter test es)
@@ -113,14 +114,19 @@ module _ (when : LinkKind) where
             inr (ranks, numbers))
             (cases_lt x.1.cleanup.rank y.1.cleanup.rank)
 
-    pub are_cleanups : (items : List Item) → items ≡ map of_cleanup cs → AreWords items → IsNonDecreasingBy numbered items → AreCleanups when cleanups items
+    pub are_cleanups : (items : List Item) → items ≡ map of_cleanup cs → AreWords items → IsNonDecreasingBy numbered items → AreCleanups from when cleanups items
     are_cleanups items is words up = (
       cs,
       record {
-        each = ones;
+        each = λ k d within.
+            let e = get_or cs k d in
+            let one = ones k d within in
+            let parts = and_parts (nat_le from e.0) (is_when when e.1.cleanup.when) one.1 in
+            (get-retain cleanups (nat_le from) e.0 ∙ ap (λ t. cond t (get cleanups e.0) None) parts.0 ∙ one.0, parts.1);
         whole = λ number c here on.
-            let found = place_of es (number, c) (listed es number c (ap (λ (m : Map Attached). get m number) are.0 ∙ here)) in
-            let left = kept_in test es found.0 (number, c) found.1 on in
+            let back = retained_back cleanups (nat_le from) number c here in
+            let found = place_of es (number, c) (listed es number c (ap (λ (m : Map Attached). get m number) are.0 ∙ back.1)) in
+            let left = kept_in test es found.0 (number, c) found.1 (λ i. back.0 i && on i) in
             Contains-permutation (filter test es) cs (number, c) same (contains_at (filter test es) left.0 (number, c) left.1);
         ordered = in_order (subst AreWords is words) (subst (IsNonDecreasingBy numbered) is up);
       },

@@ -23,7 +23,8 @@ use Rattle.fz_machine.specs.declared.phase.Phase.TheVariants.{Keys, KeysAgain, H
 use Rattle.fz_machine.specs.declared.phase.Phase.TheVariants as phase
 use Rattle.fz_machine.specs.Graph.{Graph}
 use Rattle.fz_machine.specs.Items.{place_of}
-use Rattle.fz_machine.specs.Phases.{Lists, given, aside_in, off_in}
+use Rattle.fz_machine.specs.Off.{PutOff}
+use Rattle.fz_machine.specs.Phases.{Scope, Lists, given, aside_in, off_in}
 use Rattle.fz_machine.proofs.Among.{Each, OneOf, AreInOrder}
 use Rattle.fz_machine.proofs.Chosen.{AreChosen}
 use Rattle.fz_machine.proofs.Cleaning.{Cleaning}
@@ -192,11 +193,11 @@ module _ (E : Type 0) (word_of : ℕ → Option ℕ) (value : Map Object → ℕ
     pub marks : Marks E clear first.mid marked (AreReached clear first.table.registrations (skips true flags first.mid))
     pub state : s ≡ picked_with table (first.picks ++ late_picks)
 
-  abbrev LooksFrom : (ℕ → Bool) → Phase → List Item → List Item → List Item → Graph → Type 0
+  abbrev LooksFrom : (ℕ → Bool) → Phase → List Item → List Item → PutOff → Graph → Type 0
   LooksFrom marked = Looks E word_of value clear judged marked
 
   -- before everything else they have become whole already
-  abbrev pub IsSettling : Moment → Phase → State → List Item → List Item → List Item → List Item → Graph → Type 0
+  abbrev pub IsSettling : Moment → Phase → State → List Item → List Item → List Item → PutOff → Graph → Type 0
   IsSettling moments.First phase s kept left aside off h = ⊥
   IsSettling moments.Led phase s kept left aside off h = (w : SettlesLed s aside) × LooksFrom w.marked phase kept left off h
   IsSettling moments.Picked phase s kept left aside off h = (w : SettlesPicked s aside) × LooksFrom w.marked phase kept left off h
@@ -204,7 +205,7 @@ module _ (E : Type 0) (word_of : ℕ → Option ℕ) (value : Map Object → ℕ
 
   -- ---- all phases behind the first
 
-  abbrev pub IsIn : Phase → State → List Item → List Item → List Item → List Item → Graph → Type 0
+  abbrev pub IsIn : Phase → State → List Item → List Item → List Item → PutOff → Graph → Type 0
   IsIn (Keys moment) s kept left aside off h = IsSettling moment (Keys moment) s kept left aside off h
   IsIn (KeysAgain moment) s kept left aside off h = IsSettling moment (KeysAgain moment) s kept left aside off h
   IsIn (Holders moment) s kept left aside off h = IsSettling moment (Holders moment) s kept left aside off h
@@ -244,6 +245,6 @@ module _ (E : Type 0) (word_of : ℕ → Option ℕ) (value : Map Object → ℕ
     pub marks_are : h.marked ≡ chosen.kept
 
   -- the next phase, whatever it lists, or the end
-  abbrev pub IsAfter : Option Phase → State → List Item → List Item → List Item → Graph → Type 0
-  IsAfter None s kept aside off h = IsAtEnd s h
-  IsAfter (Some p) s kept aside off h = (items : List Item) → Lists p s (given p kept aside off) items → IsIn p s [] items (aside_in p kept aside) (off_in p off) h
+  abbrev pub IsAfter : Scope → Option Phase → State → List Item → List Item → PutOff → Graph → Type 0
+  IsAfter scope None s kept aside off h = IsAtEnd s h
+  IsAfter scope (Some p) s kept aside off h = (items : List Item) → Lists p scope s (given p kept aside off) items → IsIn p s [] items (aside_in p kept aside) (off_in p off) h

@@ -24,6 +24,7 @@ use Rattle.fz_finalizers.specs.States.{State}
 use Rattle.fz_machine.specs.declared.item.Item.{Item}
 use Rattle.fz_machine.specs.Items.{AreObjects, of_late, of_other, of_stored}
 use Rattle.fz_machine.specs.Regions.{place_in, region_of, places, objects_in, item_at, items_of, items_in, AreNoted, AreRegions, IsNoted}
+use Rattle.fz_machine.proofs.Younger.{all_young}
 use Rattle.fz_machine.proofs.Places.{region_back, object_back, place_less}
 
 -- ---- the objects of regions
@@ -276,8 +277,8 @@ module _ (s : State) where
         (IsDistinct-IsPermutation nat_eq (λ x y. nat_eq_equiv.symm x y) (keys_of rs) (keys_of (reverse rs)) (IsPermutation-map (λ (r : ℕ × ℕ). r.0) rs (reverse rs) (IsPermutation-reverse rs)) regions.once))
 
     -- of all regions, from the back, are those of the registrations
-    pub regions_list : AreObjects s.registrations s.late (items_in s (reverse rs))
-    regions_list = (entries (all_in (reverse rs)), (all, apart), flagged (all_in (reverse rs)), items_all (reverse rs) ∙ sym (items_are (all_in (reverse rs))))
+    pub regions_list : AreObjects 0 s.registrations s.late (items_in s (reverse rs))
+    regions_list = (entries (all_in (reverse rs)), (all, apart), flagged (all_in (reverse rs)), items_all (reverse rs) ∙ sym (items_are (all_in (reverse rs))) ∙ ap (map of_stored) (sym (all_young (entries (all_in (reverse rs))))))
 
     pub regions_fit : length (items_in s (reverse rs)) ≡ len s.registrations
     regions_fit =

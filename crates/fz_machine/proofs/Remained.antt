@@ -6,9 +6,8 @@ use Rattle.fz_machine.specs.declared.phase.Phase.{Phase}
 use Rattle.fz_machine.specs.declared.phase.Moment.TheVariants.{First, Led, Picked, Last}
 use Rattle.fz_machine.specs.declared.phase.Phase.TheVariants.{Keys, KeysAgain, Holders, Values, ShortCleanups, ShortTargets, ShortWords, ShortKeys, ShortKeyWords, Objects, LongCleanups}
 use Rattle.fz_machine.specs.Going.{begins_with, is_early, to_process, to_process_by}
-use Rattle.fz_machine.specs.Heard.{Opened, Marks, Others, Beside, HearsMarks, RegionQuestionsEnd}
+use Rattle.fz_machine.specs.Heard.{Opened, Marks, Others, Beside, HearsMarks, Keyed, RegionQuestionsEnd}
 use Rattle.fz_machine.specs.Machines.{Machine, regions_left}
-use Rattle.fz_machine.specs.declared.item.Item.{Item}
 use Rattle.fz_machine.specs.Phases.{next_phase}
 use Rattle.fz_machine.specs.Regions.{Regions, items_in}
 
@@ -38,34 +37,34 @@ abbrev pub IsTurned : Phase → Option Phase → Type 0
 IsTurned phase None = Unit {0}
 IsTurned phase (Some next) = (all left more : ℕ) → left ≤ begins_with next all → to_process (Some next) all left ≤ to_process (Some phase) all more
 
-pub turned : (phase : Phase) (kept : List Item) → IsTurned phase (next_phase phase kept)
-turned (Keys First) kept = λ all left more few. omega arith
-turned (KeysAgain First) kept = λ all left more few. omega arith
-turned (Holders First) kept = λ all left more few. omega arith
-turned (Values First) [] = λ all left more few. omega arith
-turned (Values First) (item ∷ kept) = λ all left more few. omega arith
-turned (Keys Led) kept = λ all left more few. omega (arith, few)
-turned (KeysAgain Led) kept = λ all left more few. omega (arith, few)
-turned (Holders Led) kept = λ all left more few. omega (arith, few)
-turned (Values Led) [] = λ all left more few. omega (arith, few)
-turned (Values Led) (item ∷ kept) = λ all left more few. omega (arith, few)
-turned (Keys Picked) kept = λ all left more few. omega (arith, few)
-turned (KeysAgain Picked) kept = λ all left more few. omega (arith, few)
-turned (Holders Picked) kept = λ all left more few. omega (arith, few)
-turned (Values Picked) [] = λ all left more few. omega (arith, few)
-turned (Values Picked) (item ∷ kept) = λ all left more few. omega (arith, few)
-turned (Keys Last) kept = λ all left more few. omega (arith, few)
-turned (KeysAgain Last) kept = λ all left more few. omega (arith, few)
-turned (Holders Last) kept = λ all left more few. omega (arith, few)
-turned (Values Last) [] = λ all left more few. omega (arith, few)
-turned (Values Last) (item ∷ kept) = λ all left more few. omega (arith, few)
-turned ShortCleanups kept = λ all left more few. omega arith
-turned ShortTargets kept = λ all left more few. omega arith
-turned ShortWords kept = λ all left more few. omega arith
-turned ShortKeys kept = λ all left more few. omega arith
-turned ShortKeyWords kept = λ all left more few. few
-turned LongCleanups kept = tt
-turned phase kept = λ all left more few. omega (arith, few)
+pub turned : (phase : Phase) (more : Bool) → IsTurned phase (next_phase phase more)
+turned (Keys First) more = λ all left most few. omega arith
+turned (KeysAgain First) more = λ all left most few. omega arith
+turned (Holders First) more = λ all left most few. omega arith
+turned (Values First) false = λ all left most few. omega arith
+turned (Values First) true = λ all left most few. omega arith
+turned (Keys Led) more = λ all left most few. omega (arith, few)
+turned (KeysAgain Led) more = λ all left most few. omega (arith, few)
+turned (Holders Led) more = λ all left most few. omega (arith, few)
+turned (Values Led) false = λ all left most few. omega (arith, few)
+turned (Values Led) true = λ all left most few. omega (arith, few)
+turned (Keys Picked) more = λ all left most few. omega (arith, few)
+turned (KeysAgain Picked) more = λ all left most few. omega (arith, few)
+turned (Holders Picked) more = λ all left most few. omega (arith, few)
+turned (Values Picked) false = λ all left most few. omega (arith, few)
+turned (Values Picked) true = λ all left most few. omega (arith, few)
+turned (Keys Last) more = λ all left most few. omega (arith, few)
+turned (KeysAgain Last) more = λ all left most few. omega (arith, few)
+turned (Holders Last) more = λ all left most few. omega (arith, few)
+turned (Values Last) false = λ all left most few. omega (arith, few)
+turned (Values Last) true = λ all left most few. omega (arith, few)
+turned ShortCleanups more = λ all left most few. omega arith
+turned ShortTargets more = λ all left most few. omega arith
+turned ShortWords more = λ all left most few. omega arith
+turned ShortKeys more = λ all left most few. omega arith
+turned ShortKeyWords more = λ all left most few. few
+turned LongCleanups more = tt
+turned phase more = λ all left most few. omega (arith, few)
 
 -- a question is asked
 pub asked_fewer : (old mid new : Regions) (count : ℕ) (last : Option Phase) (phase : Phase) (was : Option Phase) → was ≡ Some phase → new ≡ record mid { asked = count } → (left : ℕ) → to_process_by was old ≡ left → to_process_by last mid ≤ to_process_by (Some phase) old
@@ -140,9 +139,10 @@ module _ (all : ℕ) where
       one_more before (regions_left old) question.count (regions_left m) (omega (arith, many, count)) most (counted (regions_left m) (length old.regions) (regions_left old) question.count over count most) (heard begun old before start hears)
   heard begun m n start (Others {m = old} {n = before} answers goes hears) = fewer before (regions_left old) (regions_left m) goes.fewer (heard begun old before start hears)
   heard begun m n start (Beside {m = old} worked hears) = subst (λ (k : Machine). AreFew n (regions_left k)) (sym worked.keeps) (heard begun old n start hears)
+  heard begun m n start (Keyed {m = old} key tells hears) = subst (λ (k : Machine). AreFew n (regions_left k)) (sym tells.same) (heard begun old n start hears)
 
 pub region_questions_end : RegionQuestionsEnd
-region_questions_end old begun m n is hears =
+region_questions_end from old begun m n is hears =
     let first : regions_left begun ≡ old.tabled = ap (λ o. to_process o begun.tabled begun.remaining) is.phase ∙ is.tabled in
     few n (regions_left m) (heard old.tabled begun m n (begin (regions_left begun) first) hears)
   where

@@ -6,8 +6,9 @@ use Rattle.fz_machine.specs.declared.pass.Next.{Next}
 use Rattle.fz_machine.specs.declared.phase.Phase.{Phase}
 use Rattle.fz_machine.specs.declared.phase.Phase.TheVariants.{Objects}
 use Rattle.fz_machine.specs.Going.{going, going_by, HasRoomOff, HasRoomToKeep, IsInOrder, IsSameRoom, KeepsBeside}
-use Rattle.fz_machine.specs.Phases.{settles, settles_in}
-use Rattle.fz_machine.specs.Machines.{Machine, GoesTo, regions_left}
+use Rattle.fz_machine.specs.Off.{count_off}
+use Rattle.fz_machine.specs.Phases.{Scope, scope_by, settles, settles_in}
+use Rattle.fz_machine.specs.Machines.{Machine, GoesTo, regions_left, scope}
 use Rattle.fz_machine.specs.Regions.{Regions, AreNoted, items_in, marks_say}
 use Rattle.fz_machine.specs.Steps.{Going, GoesOn, steps}
 use Rattle.fz_machine.specs.Walks.{Walk}
@@ -71,7 +72,7 @@ module _ (f : View) (walk new : Walk) (old regions : Regions) (phase : Option Ph
       let nothing : marks_say f.state (take old.asked old.left) marks ≡ [] = ap (λ rs. marks_say f.state rs marks) (ap (take old.asked) none ∙ none_taken old.asked) in
       let same : going f new ≡ going f walk =
       sym (no_regions f new regions (ended none)) ∙ heard ∙ ap (λ xs. steps Objects xs (going_by f walk old)) nothing ∙ no_regions f walk old none in
-      let many = ap (λ (k : Going). length k.kept + length k.left + length k.off) same in
+      let many = ap (λ (k : Going). length k.kept + length k.left + count_off k.off) same in
       let few = (order.room_off settling).0 in
       let few_off = (order.room_off settling).1 in
       let more = room.1 in
@@ -101,15 +102,17 @@ module _ (f : View) (walk new : Walk) (old regions : Regions) (phase : Option Ph
 
 -- the answers before it goes on
 pub after_answers : (old mid new : Machine) (answers : List Bool) (next : Next) (p : Phase) → old.phase ≡ Some p → mid.phase ≡ old.phase → going mid.finalizers mid.walk ≡ steps p answers (going old.finalizers old.walk) → mid.before ≡ old.before → mid.by_regions ≡ old.by_regions → mid.noted ≡ old.noted
-    → mid.tabled ≤ old.tabled → regions_left mid ≤ regions_left old → GoesTo mid [] new next → GoesTo old answers new next
-after_answers old mid new answers next p is same heard before on noted tabled fewer goes =
+    → mid.from ≡ old.from → mid.tabled ≤ old.tabled → regions_left mid ≤ regions_left old → GoesTo mid [] new next → GoesTo old answers new next
+after_answers old mid new answers next p is same heard before on noted from tabled fewer goes =
     let at : p ≡ goes.phase = same_Some p goes.phase (sym is ∙ sym same ∙ goes.was) in
     record {
       phase = goes.phase;
       was = sym same ∙ goes.was;
-      goes = subst (λ (k : Going). GoesOn goes.phase k new.phase (going new.finalizers new.walk)) (heard ∙ ap (λ q. steps q answers (going old.finalizers old.walk)) at) goes.goes;
+      goes = subst (λ (k : Going). GoesOn (scope old) goes.phase k new.phase (going new.finalizers new.walk)) (heard ∙ ap (λ q. steps q answers (going old.finalizers old.walk)) at)
+          (subst (λ (sc : Scope). GoesOn sc goes.phase (going mid.finalizers mid.walk) new.phase (going new.finalizers new.walk)) (λ i. scope_by (noted i) (from i)) goes.goes);
       tells = goes.tells;
       before = goes.before ∙ before;
+      from = goes.from ∙ from;
       by_regions = goes.by_regions ∙ on;
       noted = goes.noted ∙ noted;
       tabled = through new.tabled mid.tabled old.tabled old.tabled goes.tabled tabled (omega arith);

@@ -5,13 +5,16 @@ use Rattle.fz_model.specs.State.{Map, Object}
 use Rattle.fz_finalizers.specs.declared.cleanups.Attached.{Attached}
 use Rattle.fz_finalizers.specs.Cleanups.{AreDue, is_due}
 use Rattle.fz_finalizers.specs.States.{State}
+use Rattle.fz_finalizers.proofs.Cleaned.{without_back}
 use Rattle.fz_machine.specs.declared.item.Item.{Item}
 use Rattle.fz_machine.specs.declared.phase.Phase.{Phase}
 use Rattle.fz_machine.specs.declared.phase.Phase.TheVariants.{ShortCleanups, ShortTargets}
 use Rattle.fz_machine.specs.Graph.{Graph, IsHonest}
 use Rattle.fz_machine.specs.Items.{AreCleanups, AreLinks}
-use Rattle.fz_machine.specs.Phases.{Lists, after, aside_in, asks, given, keeps, next_phase, off_in, puts_off, subject}
-use Rattle.fz_machine.proofs.Begun.{HasBegun}
+use Rattle.fz_machine.specs.Machines.{TellsIn}
+use Rattle.fz_machine.specs.Off.{PutOff, looks_again, put_off}
+use Rattle.fz_machine.specs.Phases.{Scope, Lists, after, aside_in, asks, given, keeps, next_phase, off_in, subject}
+use Rattle.fz_machine.proofs.Begun.{HasBegun, young_attached}
 use Rattle.fz_machine.proofs.Cleaning.{Cleaning, after_due, cleaning_all, cleaning_begins, cleaning_on}
 use Rattle.fz_machine.proofs.DeadWords.{IsLink, IsLinkAt}
 use Rattle.fz_machine.proofs.Entered.{links_all, links_each}
@@ -30,43 +33,50 @@ module _ (E : Type 0) (word_of : ℕ → Option ℕ) (value : Map Object → ℕ
   IsFirst phase s left h = (phase ≡ ShortCleanups) × Cleaning E word_of value Short b before.objects before.marked s left h
 
   -- the pass behind it, over what it leaves
-  abbrev pub IsBehind : Phase → State → List Item → List Item → List Item → List Item → Graph → Type 0
+  abbrev pub IsBehind : Phase → State → List Item → List Item → List Item → PutOff → Graph → Type 0
   IsBehind phase s kept left aside off h = (due : List (ℕ × Attached)) × AreShort due × phased.IsIn E word_of value (after_due b due) before phase s kept left aside off h
 
-  abbrev pub IsIn : Phase → State → List Item → List Item → List Item → List Item → Graph → Type 0
+  abbrev pub IsIn : Phase → State → List Item → List Item → List Item → PutOff → Graph → Type 0
   IsIn phase s kept left aside off h = IsFirst phase s left h ⊎ IsBehind phase s kept left aside off h
 
   abbrev pub IsAtEnd : State → Graph → Type 0
   IsAtEnd s h = (due : List (ℕ × Attached)) × AreShort due × phased.IsAtEnd E word_of value (after_due b due) before s h
 
   -- the next phase, whatever it lists, or the end
-  abbrev pub IsAfter : Option Phase → State → List Item → List Item → List Item → Graph → Type 0
-  IsAfter None s kept aside off h = IsAtEnd s h
-  IsAfter (Some p) s kept aside off h = (items : List Item) → Lists p s (given p kept aside off) items → IsIn p s [] items (aside_in p kept aside) (off_in p off) h
+  abbrev pub IsAfter : Scope → Option Phase → State → List Item → List Item → PutOff → Graph → Type 0
+  IsAfter scope None s kept aside off h = IsAtEnd s h
+  IsAfter scope (Some p) s kept aside off h = (items : List Item) → Lists p scope s (given p kept aside off) items → IsIn p s [] items (aside_in p kept aside) (off_in p off) h
 
   module _ (begin : HasBegun word_of b before) where
-    pub begin_behind : (due : List (ℕ × Attached)) → HasBegun word_of (after_due b due) before
+    abbrev pub begin_behind : (due : List (ℕ × Attached)) → HasBegun word_of (after_due b due) before
     begin_behind due = record {
       may = record { registered = begin.registered; short = begin.short; long = begin.long; short_keys = begin.short_keys; long_keys = begin.long_keys; zero = begin.zero; closed = begin.closed; births = begin.births; starts = begin.starts; apart = begin.apart };
       flags = begin.flags;
       single = begin.single;
+      scope = begin.scope;
+      seen = record { registered = begin.seen.registered; attached = λ number c here lt. begin.seen.attached number c (without_back b.cleanups due number c here).0 lt };
     }
 
-    pub keep : (phase : Phase) (s : State) (kept left aside off : List Item) (item : Item) (h new : Graph) → IsIn phase s kept (item ∷ left) aside off h → (answer : Bool)
+    pub keep : (phase : Phase) (s : State) (kept left aside : List Item) (off : PutOff) (item : Item) (h new : Graph) → IsIn phase s kept (item ∷ left) aside off h → (answer : Bool)
         → IsHonest E word_of value (asks phase item) (subject phase item) h answer new
-        → IsIn phase (after phase item answer s) (kept_on (keeps phase item answer) kept item) left aside (kept_on (puts_off phase answer) off item) new
+        → IsIn phase (after phase item answer s) (kept_on (keeps phase item answer) kept item) left aside (put_off phase item answer off) new
     keep phase s kept left aside off item h new p answer honest = ⊎_elim first behind p
       where
-        first : IsFirst phase s (item ∷ left) h → IsIn phase (after phase item answer s) (kept_on (keeps phase item answer) kept item) left aside (kept_on (puts_off phase answer) off item) new
+        first : IsFirst phase s (item ∷ left) h → IsIn phase (after phase item answer s) (kept_on (keeps phase item answer) kept item) left aside (put_off phase item answer off) new
         first (is, c) =
             let told = subst (λ (q : Phase). IsHonest E word_of value (asks q item) (subject q item) h answer new) is honest in
             inl (is, subst (λ (q : Phase). Cleaning E word_of value Short b before.objects before.marked (after q item answer s) left new) (sym is) (cleaning_on E word_of value Short b before.objects before.marked s left item h new c answer told))
 
-        behind : IsBehind phase s kept (item ∷ left) aside off h → IsIn phase (after phase item answer s) (kept_on (keeps phase item answer) kept item) left aside (kept_on (puts_off phase answer) off item) new
+        behind : IsBehind phase s kept (item ∷ left) aside off h → IsIn phase (after phase item answer s) (kept_on (keeps phase item answer) kept item) left aside (put_off phase item answer off) new
         behind (due, are, q) = inr (due, are, keeping.keep E word_of value (after_due b due) before (begin_behind due) phase s kept left aside off item h new q answer honest)
 
+    -- the host tells a key
+    pub told : (key : ℕ) (phase : Phase) (s : State) (kept left aside : List Item) (was now : PutOff) (h : Graph) → TellsIn (Some phase) key was now → IsIn phase s kept left aside was h → IsIn phase s kept left aside now h
+    told key phase s kept left aside was now h tells p =
+        ⊎_elim (λ (q : IsFirst phase s left h). inl q) (λ (q : IsBehind phase s kept left aside was h). inr (q.0, q.1, keeping.told E word_of value (after_due b q.0) before (begin_behind q.0) key phase s kept left aside was now h tells q.2)) p
+
     -- behind the first round short links are asked about
-    links_begin : (s : State) (h : Graph) → Cleaning E word_of value Short b before.objects before.marked s [] h → (items : List Item) → AreLinks s.short items → (aside off : List Item) → IsIn ShortTargets s [] items aside off h
+    links_begin : (s : State) (h : Graph) → Cleaning E word_of value Short b before.objects before.marked s [] h → (items : List Item) → AreLinks s.short items → (aside : List Item) (off : PutOff) → IsIn ShortTargets s [] items aside off h
     links_begin s h c items are aside off =
         let cleans = cleaning_all E word_of value Short b before.objects before.marked s h c in
         let n = after_due b cleans.0 in
@@ -78,16 +88,20 @@ module _ (E : Type 0) (word_of : ℕ → Option ℕ) (value : Map Object → ℕ
               (cleans.2 ∙ as_begun n) c.objects_are c.marks_are (links_each b.short items listed) (λ object word here off. links_all b.short items listed object word here),
         )
 
-    behind_on : (due : List (ℕ × Attached)) → AreShort due → (next : Option Phase) (s : State) (kept aside off : List Item) (h : Graph) → phased.IsAfter E word_of value (after_due b due) before next s kept aside off h → IsAfter next s kept aside off h
+    behind_on : (due : List (ℕ × Attached)) → AreShort due → (next : Option Phase) (s : State) (kept aside : List Item) (off : PutOff) (h : Graph) → phased.IsAfter E word_of value (after_due b due) before begin.scope next s kept aside off h → IsAfter begin.scope next s kept aside off h
     behind_on due are None s kept aside off h end = (due, are, end)
     behind_on due are (Some p) s kept aside off h on = λ items lists. inr (due, are, on items lists)
 
-    pub turn : (phase : Phase) (s : State) (kept aside off : List Item) (h : Graph) → IsIn phase s kept [] aside off h → IsAfter (next_phase phase kept) s kept aside off h
+    pub turn : (phase : Phase) (s : State) (kept aside : List Item) (off : PutOff) (h : Graph) → IsIn phase s kept [] aside off h → IsAfter begin.scope (next_phase phase (looks_again off)) s kept aside off h
     turn phase s kept aside off h p =
-        ⊎_elim (λ (q : IsFirst phase s [] h). subst (λ (o : Phase). IsAfter (next_phase o kept) s kept aside off h) (sym q.0) (λ items are. links_begin s h q.1 items are aside off))
-        (λ (q : IsBehind phase s kept [] aside off h). behind_on q.0 q.1 (next_phase phase kept) s kept aside off h (turning.turn E word_of value (after_due b q.0) before (begin_behind q.0) phase s kept aside off h q.2)) p
+        ⊎_elim (λ (q : IsFirst phase s [] h). subst (λ (o : Phase). IsAfter begin.scope (next_phase o (looks_again off)) s kept aside off h) (sym q.0) (λ items are. links_begin s h q.1 items are aside off))
+        (λ (q : IsBehind phase s kept [] aside off h). behind_on q.0 q.1 (next_phase phase (looks_again off)) s kept aside off h (turning.turn E word_of value (after_due b q.0) before (begin_behind q.0) phase s kept aside off h q.2)) p
 
     -- the round begins
-    pub cleanups_begin : (s : State) (items : List Item) (h : Graph) → s ≡ b → h.objects ≡ before.objects → h.marked ≡ before.marked → AreCleanups Short s.cleanups items → (aside off : List Item) → IsIn ShortCleanups s [] items aside off h
+    pub cleanups_begin : (s : State) (items : List Item) (h : Graph) → s ≡ b → h.objects ≡ before.objects → h.marked ≡ before.marked → AreCleanups begin.scope.cleanups Short s.cleanups items → (aside : List Item) (off : PutOff) → IsIn ShortCleanups s [] items aside off h
     cleanups_begin s items h state objects_are marks_are are aside off =
-        inl (refl, cleaning_begins E word_of value Short b before.objects before.marked s items h state objects_are marks_are (subst (λ (t : State). AreCleanups Short t.cleanups items) state are))
+        inl (
+          refl,
+          cleaning_begins E word_of value Short b before.objects before.marked begin.scope.cleanups s items h (young_attached E word_of value b before begin before.marked (λ a on. on)) state objects_are marks_are
+              (subst (λ (t : State). AreCleanups begin.scope.cleanups Short t.cleanups items) state are),
+        )

@@ -3,7 +3,7 @@ use Rattle.std.proofs.Common.{◌∷◌, [], Bool, true, false, cond, List, Opti
 use Rattle.fz_finalizers.specs.States.{State}
 use Rattle.fz_machine.specs.declared.item.Item.{Item}
 use Rattle.fz_machine.specs.declared.phase.Phase.{Phase}
-use Rattle.fz_machine.specs.Phases.{after, asks}
+use Rattle.fz_machine.specs.Phases.{Scope, after, asks}
 use Rattle.fz_machine.specs.Steps.{Asks, Ends, Going, GoesOn, Turns, skip, skipped, step, stepped, steps}
 
 module _ (P : State → Type 0) (keeps : (phase : Phase) (item : Item) (answer : Bool) (s : State) → P s → P (after phase item answer s)) where
@@ -30,7 +30,7 @@ module _ (P : State → Type 0) (keeps : (phase : Phase) (item : Item) (answer :
     pub skip_keeps : (g : Going) → P g.finalizers → P (skip phase g).finalizers
     skip_keeps g h = skipped_keeps g.left g h
 
-  pub goes_keep : (phase : Phase) (g : Going) (last : Option Phase) (k : Going) → GoesOn phase g last k → P g.finalizers → P k.finalizers
+  pub goes_keep : {scope : Scope} (phase : Phase) (g : Going) (last : Option Phase) (k : Going) → GoesOn scope phase g last k → P g.finalizers → P k.finalizers
   goes_keep phase g last k (Asks item left some) h = skip_keeps phase g h
   goes_keep phase g last k (Turns {next = next} {h = m} none turns begins rest) h = goes_keep next m last k rest (subst P (sym begins.same) (skip_keeps phase g h))
   goes_keep phase g last k (Ends none turns) h = skip_keeps phase g h

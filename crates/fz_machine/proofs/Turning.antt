@@ -1,5 +1,5 @@
 -- From phase to phase, and to the end.
-use Rattle.std.proofs.Common.{◌≡◌, ◌++◌, ◌∷◌, ◌∙◌, [], ℕ, Bool, true, false, not, List, length, refl, sym, ap, subst, inl, inr, ⊎_elim, is_some, append-nil, IsTrue, Option}
+use Rattle.std.proofs.Common.{◌≡◌, ◌++◌, ◌∙◌, [], ℕ, Bool, true, false, not, List, length, refl, sym, ap, subst, inl, inr, ⊎_elim, is_some, append-nil, IsTrue, Option}
 use Rattle.std.specs.FinMap.{retain_keys}
 use Rattle.std.specs.FinSet.{contains}
 use Rattle.fz_model.specs.State.{Map, Object}
@@ -26,9 +26,10 @@ use Rattle.fz_machine.specs.declared.phase.Phase.{Phase}
 use Rattle.fz_machine.specs.declared.phase.Phase.TheVariants.{Keys, KeysAgain, Holders, Values, ShortCleanups, ShortTargets, ShortWords, ShortKeys, ShortKeyWords, Objects, Children, Again, Picks, LateAgain, LatePicks, LongTargets, LongWords, LongKeys, LongKeyWords, ShortHolders, LongHolders, ShortKeyHolders, LongKeyHolders, LongCleanups}
 use Rattle.fz_machine.specs.Graph.{Graph}
 use Rattle.fz_machine.specs.Items.{AreCleanups, AreEphemerons, AreInTurn, AreLinks, AreObjects, place_of}
+use Rattle.fz_machine.specs.Off.{PutOff, looked_at, looking, looks_again, none_off}
 use Rattle.fz_machine.specs.Phases.{next_phase}
 use Rattle.fz_machine.proofs.Among.{AreInOrder, Each, OneOf, each_as, each_permuted, one_as, one_permuted, order_from}
-use Rattle.fz_machine.proofs.Begun.{HasBegun, closed, found_led, led_picked, long_key_targets, long_targets, normal, not_before, registered, short_key_targets, still_nowhere, was_there}
+use Rattle.fz_machine.proofs.Begun.{HasBegun, closed, found_led, led_picked, long_key_targets, long_targets, normal, not_before, registered, short_key_targets, still_nowhere, was_there, young_attached, young_registered}
 use Rattle.fz_machine.proofs.Cleaning.{cleaning_all, cleaning_begins}
 use Rattle.fz_machine.proofs.Chosen.{choosing_begins, chosen_all}
 use Rattle.fz_machine.proofs.DeadWords.{IsLink, IsLinkAt}
@@ -38,6 +39,7 @@ use Rattle.fz_machine.proofs.Phased.{IsAfter, IsAtEnd, IsIn, IsSettling, IsUnfou
 use Rattle.fz_machine.proofs.Phasing.{Sifts, Clears, clears_all, clears_begin, holds_all, holds_begin, sifts_begin}
 use Rattle.fz_machine.proofs.Sifting.{IsAt, sifted}
 use Rattle.fz_machine.proofs.Stated.{tabled}
+use Rattle.fz_machine.proofs.Delayed.{all_off}
 use Rattle.fz_machine.proofs.Waiting as waiting
 use Rattle.fz_machine.proofs.Waiting.{is_settled, looks_begin, to_holders, to_keys, to_values}
 
@@ -72,23 +74,24 @@ module _ (E : Type 0) (word_of : ℕ → Option ℕ) (value : Map Object → ℕ
   abbrev rows : Ephemerons
   rows = judged E word_of value b before
 
-  abbrev At : Phase → State → List Item → List Item → List Item → List Item → Graph → Type 0
+  abbrev At : Phase → State → List Item → List Item → List Item → PutOff → Graph → Type 0
   At = IsIn E word_of value b before
 
   -- ---- to registered objects
 
-  to_short_keys : (s : State) (aside off : List Item) (h : Graph) → Clears E word_of value (λ links. with_links links b.ephemerons.short) before.objects b.short before.marked s [] h → (items : List Item) → AreLinks s.ephemerons.short items → At ShortKeys s [] items aside off h
+  to_short_keys : (s : State) (aside : List Item) (off : PutOff) (h : Graph) → Clears E word_of value (λ links. with_links links b.ephemerons.short) before.objects b.short before.marked s [] h → (items : List Item) → AreLinks s.ephemerons.short items → At ShortKeys s [] items aside off h
   to_short_keys s aside off h p items are =
       let all = clears_all E word_of value (λ links. with_links links b.ephemerons.short) before.objects b.short before.marked begin.short begin.apart s h p in
       let listed : AreLinks b.ephemerons.short items = subst (λ (t : State). AreLinks t.ephemerons.short items) all.0 are in
       sifts_begin E word_of value _ begun before.marked (IsLink word_of begun b.ephemerons.short before.marked) (IsLinkAt word_of begun b.ephemerons.short before.marked) s items h all.0 all.1 all.2
       (links_each b.ephemerons.short items listed) (λ object word here off. links_all b.ephemerons.short items listed object word here)
 
-  to_objects : (s : State) (aside off : List Item) (h : Graph) → Clears E word_of value (λ keys. with_links shorts keys) begun b.ephemerons.short before.marked s [] h → (items : List Item) → AreObjects s.registrations s.late items → At Objects s [] items aside off h
+  to_objects : (s : State) (aside : List Item) (off : PutOff) (h : Graph) → Clears E word_of value (λ keys. with_links shorts keys) begun b.ephemerons.short before.marked s [] h → (items : List Item) → AreObjects begin.scope.registrations s.registrations s.late items → At Objects s [] items aside off h
   to_objects s aside off h p items are =
       let all = clears_all E word_of value (λ keys. with_links shorts keys) begun b.ephemerons.short before.marked (short_key_targets E word_of value b before begin) begin.apart s h p in
-      let listed : AreObjects b.registrations b.late items = subst (λ (t : State). AreObjects t.registrations t.late items) p.state are in
-      sifts_begin E word_of value _ clearly before.marked Either EitherAt s items h all.0 all.1 all.2 (objects_each b.registrations b.late items listed) (λ object word at off. objects_all b.registrations b.late items listed object word at)
+      let listed : AreObjects begin.scope.registrations b.registrations b.late items = subst (λ (t : State). AreObjects begin.scope.registrations t.registrations t.late items) p.state are in
+      sifts_begin E word_of value _ clearly before.marked Either EitherAt s items h all.0 all.1 all.2 (objects_each b.registrations b.late begin.scope.registrations items listed)
+      (λ object word at off. objects_all b.registrations b.late begin.scope.registrations items listed object word at (λ r here. young_registered E word_of value b before begin object r here off))
 
   to_children : (s : State) (kept : List Item) (h : Graph) → Sifts E word_of value (with_links shorts keys) clearly before.marked Either EitherAt s kept [] h → (items : List Item) → items ≡ kept → LeadsOn E word_of value b before s [] items h
   to_children s kept h p items is =
@@ -104,7 +107,7 @@ module _ (E : Type 0) (word_of : ℕ → Option ℕ) (value : Map Object → ℕ
 
   -- ---- to picks
 
-  to_led : (s : State) (kept : List Item) (h : Graph) → LeadsOn E word_of value b before s kept [] h → (items : List Item) → AreEphemerons s.ephemerons items → At (Keys moments.Led) s [] items kept [] h
+  to_led : (s : State) (kept : List Item) (h : Graph) → LeadsOn E word_of value b before s kept [] h → (items : List Item) → AreEphemerons s.ephemerons items → At (Keys moments.Led) s [] items kept none_off h
   to_led s kept h p items are =
       let m : MarksLed E clearly before.marked h.marked b.registrations = led_all E word_of value clearly b.registrations b.late before.marked (registered E word_of value b before begin) (normal E word_of value b before begin) h p.are in (
         record {
@@ -117,9 +120,9 @@ module _ (E : Type 0) (word_of : ℕ → Option ℕ) (value : Map Object → ℕ
         looks_begin E word_of value clearly rows h.marked items h p.are.objects refl m.closed (subst (λ (t : State). AreEphemerons t.ephemerons items) p.state are),
       )
 
-  to_again : (s : State) (aside off more_aside more_off : List Item) (h : Graph) → (w : SettlesLed E word_of value b before s aside) → waiting.Marking E word_of value clearly rows w.marked [] [] off h → (items : List Item) → items ≡ aside → At Again s [] items more_aside more_off h
-  to_again s aside off more_aside more_off h w p items is =
-      let l : Leading E word_of value b before = record { first_led = w.marked; led = h.marked; marks = w.marks; settled = is_settled E word_of value clearly rows w.marked off h p } in (
+  to_again : (s : State) (aside : List Item) (off : PutOff) (more_aside : List Item) (more_off : PutOff) (h : Graph) → looks_again off ≡ false → (w : SettlesLed E word_of value b before s aside) → waiting.Marking E word_of value clearly rows w.marked [] (all_off off) off.again h → (items : List Item) → items ≡ aside → At Again s [] items more_aside more_off h
+  to_again s aside off more_aside more_off h over w p items is =
+      let l : Leading E word_of value b before = record { first_led = w.marked; led = h.marked; marks = w.marks; settled = is_settled E word_of value clearly rows w.marked off h over p } in (
         l,
         sifts_begin E word_of value _ clearly h.marked Either EitherAt s items h w.state p.settling.objects_are refl (subst (Each Either) (sym is) w.aside_are)
             (λ object word at un. subst (OneOf (IsAt object word)) (sym is) (w.rest object word at (not_before E word_of value b before begin before.marked h.marked (found_led E word_of value b before begin l) object un))),
@@ -147,7 +150,7 @@ module _ (E : Type 0) (word_of : ℕ → Option ℕ) (value : Map Object → ℕ
 
   -- ---- to picks of late ones
 
-  to_picked : (s : State) (kept : List Item) (h : Graph) → PicksOn E word_of value b before s kept [] h → (items : List Item) → AreEphemerons s.ephemerons items → At (Keys moments.Picked) s [] items kept [] h
+  to_picked : (s : State) (kept : List Item) (h : Graph) → PicksOn E word_of value b before s kept [] h → (items : List Item) → AreEphemerons s.ephemerons items → At (Keys moments.Picked) s [] items kept none_off h
   to_picked s kept h p items are =
       let all = chosen_all E clearly (tabled b) p.leading.led false (contains b.late) 0 p.now p.picks h p.are in (
         record {
@@ -165,9 +168,9 @@ module _ (E : Type 0) (word_of : ℕ → Option ℕ) (value : Map Object → ℕ
         looks_begin E word_of value clearly rows h.marked items h p.are.objects refl all.1.closed (subst (λ (t : State). AreEphemerons t.ephemerons items) p.state are),
       )
 
-  to_late_again : (s : State) (aside off more_aside more_off : List Item) (h : Graph) → (w : SettlesPicked E word_of value b before s aside) → waiting.Marking E word_of value clearly rows w.marked [] [] off h → (items : List Item) → items ≡ aside
+  to_late_again : (s : State) (aside : List Item) (off : PutOff) (more_aside : List Item) (more_off : PutOff) (h : Graph) → looks_again off ≡ false → (w : SettlesPicked E word_of value b before s aside) → waiting.Marking E word_of value clearly rows w.marked [] (all_off off) off.again h → (items : List Item) → items ≡ aside
       → At LateAgain s [] items more_aside more_off h
-  to_late_again s aside off more_aside more_off h w p items is =
+  to_late_again s aside off more_aside more_off h over w p items is =
       let c : Picked E word_of value b before = record {
         leading = w.leading;
         table = w.table;
@@ -176,7 +179,7 @@ module _ (E : Type 0) (word_of : ℕ → Option ℕ) (value : Map Object → ℕ
         mid = h.marked;
         are = w.are;
         marks = w.marks;
-        settled = is_settled E word_of value clearly rows w.marked off h p;
+        settled = is_settled E word_of value clearly rows w.marked off h over p;
       } in (
         c,
         sifts_begin E word_of value _ clearly h.marked Late LateAt s items h w.state p.settling.objects_are refl (subst (Each Late) (sym is) w.aside_are)
@@ -201,16 +204,16 @@ module _ (E : Type 0) (word_of : ℕ → Option ℕ) (value : Map Object → ℕ
 
   -- ---- to long links
 
-  to_last : (s : State) (kept : List Item) (h : Graph) → PicksLate E word_of value b before s [] h → (items : List Item) → AreEphemerons s.ephemerons items → At (Keys moments.Last) s [] items kept [] h
+  to_last : (s : State) (kept : List Item) (h : Graph) → PicksLate E word_of value b before s [] h → (items : List Item) → AreEphemerons s.ephemerons items → At (Keys moments.Last) s [] items kept none_off h
   to_last s kept h p items are =
       let all = chosen_all E clearly p.first.table p.first.mid true (contains b.late) 256 p.now p.late_picks h p.are in (
         record { first = p.first; table = p.now; late_picks = p.late_picks; marked = h.marked; are = all.0; marks = all.1; state = p.state },
         looks_begin E word_of value clearly rows h.marked items h p.are.objects refl all.1.closed (subst (λ (t : State). AreEphemerons t.ephemerons items) p.state are),
       )
 
-  to_long_targets : (s : State) (off more_aside more_off : List Item) (h : Graph) → (w : SettlesLast E word_of value b before s) → waiting.Marking E word_of value clearly rows w.marked [] [] off h → (items : List Item) → AreLinks s.long items
+  to_long_targets : (s : State) (off : PutOff) (more_aside : List Item) (more_off : PutOff) (h : Graph) → looks_again off ≡ false → (w : SettlesLast E word_of value b before s) → waiting.Marking E word_of value clearly rows w.marked [] (all_off off) off.again h → (items : List Item) → AreLinks s.long items
       → At LongTargets s [] items more_aside more_off h
-  to_long_targets s off more_aside more_off h w p items are =
+  to_long_targets s off more_aside more_off h over w p items are =
       let c : PickedBoth E word_of value b before = record {
         first = w.first;
         table = w.table;
@@ -219,7 +222,7 @@ module _ (E : Type 0) (word_of : ℕ → Option ℕ) (value : Map Object → ℕ
         kept = h.marked;
         are = w.are;
         marks = w.marks;
-        settled = is_settled E word_of value clearly rows w.marked off h p;
+        settled = is_settled E word_of value clearly rows w.marked off h over p;
       } in
       let listed : AreLinks b.long items = subst (λ (t : State). AreLinks t.long items) w.state are in (
         c,
@@ -229,45 +232,49 @@ module _ (E : Type 0) (word_of : ℕ → Option ℕ) (value : Map Object → ℕ
 
   -- ---- while the marks become whole
 
-  on_holders : (moment : Moment) (s : State) (kept aside off : List Item) (h : Graph) → IsSettling E word_of value b before moment (Keys moment) s kept [] aside off h → (items : List Item) → items ≡ kept → At (Holders moment) s [] items aside off h
+  on_holders : (moment : Moment) (s : State) (kept aside : List Item) (off : PutOff) (h : Graph) → IsSettling E word_of value b before moment (Keys moment) s kept [] aside off h → (items : List Item) → items ≡ kept → At (Holders moment) s [] items aside off h
   on_holders moments.First s kept aside off h p items is = absurd p
   on_holders moments.Led s kept aside off h (w, p) items is = (w, to_holders E word_of value clearly rows w.marked kept items off h p is)
   on_holders moments.Picked s kept aside off h (w, p) items is = (w, to_holders E word_of value clearly rows w.marked kept items off h p is)
   on_holders moments.Last s kept aside off h (w, p) items is = (w, to_holders E word_of value clearly rows w.marked kept items off h p is)
 
-  again_holders : (moment : Moment) (s : State) (kept aside off : List Item) (h : Graph) → IsSettling E word_of value b before moment (KeysAgain moment) s kept [] aside off h → (items : List Item) → items ≡ kept → At (Holders moment) s [] items aside off h
+  again_holders : (moment : Moment) (s : State) (kept aside : List Item) (off : PutOff) (h : Graph) → IsSettling E word_of value b before moment (KeysAgain moment) s kept [] aside off h → (items : List Item) → items ≡ kept → At (Holders moment) s [] items aside off h
   again_holders moments.First s kept aside off h p items is = absurd p
   again_holders moments.Led s kept aside off h (w, p) items is = (w, to_holders E word_of value clearly rows w.marked kept items off h p is)
   again_holders moments.Picked s kept aside off h (w, p) items is = (w, to_holders E word_of value clearly rows w.marked kept items off h p is)
   again_holders moments.Last s kept aside off h (w, p) items is = (w, to_holders E word_of value clearly rows w.marked kept items off h p is)
 
-  on_values : (moment : Moment) (s : State) (kept aside off : List Item) (h : Graph) → IsSettling E word_of value b before moment (Holders moment) s kept [] aside off h → (items : List Item) → items ≡ kept → At (Values moment) s [] items aside off h
+  on_values : (moment : Moment) (s : State) (kept aside : List Item) (off : PutOff) (h : Graph) → IsSettling E word_of value b before moment (Holders moment) s kept [] aside off h → (items : List Item) → items ≡ kept → At (Values moment) s [] items aside off h
   on_values moments.First s kept aside off h p items is = absurd p
   on_values moments.Led s kept aside off h (w, p) items is = (w, to_values E word_of value clearly rows w.marked kept items off h p is)
   on_values moments.Picked s kept aside off h (w, p) items is = (w, to_values E word_of value clearly rows w.marked kept items off h p is)
   on_values moments.Last s kept aside off h (w, p) items is = (w, to_values E word_of value clearly rows w.marked kept items off h p is)
 
-  on_keys : (moment : Moment) (s : State) (kept aside off : List Item) (h : Graph) → IsSettling E word_of value b before moment (Values moment) s kept [] aside off h → (items : List Item) → items ≡ off → At (KeysAgain moment) s [] items aside [] h
+  on_keys : (moment : Moment) (s : State) (kept aside : List Item) (off : PutOff) (h : Graph) → IsSettling E word_of value b before moment (Values moment) s kept [] aside off h → (items : List Item) → items ≡ looked_at off → At (KeysAgain moment) s [] items aside (looking off) h
   on_keys moments.First s kept aside off h p items is = absurd p
-  on_keys moments.Led s kept aside off h (w, p) items is = (w, to_keys E word_of value clearly rows w.marked kept items off h p is)
-  on_keys moments.Picked s kept aside off h (w, p) items is = (w, to_keys E word_of value clearly rows w.marked kept items off h p is)
-  on_keys moments.Last s kept aside off h (w, p) items is = (w, to_keys E word_of value clearly rows w.marked kept items off h p is)
+  on_keys moments.Led s kept aside off h (w, p) items is = (w, to_keys E word_of value clearly rows w.marked items off h p is)
+  on_keys moments.Picked s kept aside off h (w, p) items is = (w, to_keys E word_of value clearly rows w.marked items off h p is)
+  on_keys moments.Last s kept aside off h (w, p) items is = (w, to_keys E word_of value clearly rows w.marked items off h p is)
 
   -- and once they are
-  behind_on : (moment : Moment) (s : State) (aside off : List Item) (h : Graph) → IsSettling E word_of value b before moment (Values moment) s [] [] aside off h → IsAfter E word_of value b before (next_phase (Values moment) []) s [] aside off h
-  behind_on moments.First s aside off h p = absurd p
-  behind_on moments.Led s aside off h (w, p) = λ items is. to_again s aside off [] [] h w p items is
-  behind_on moments.Picked s aside off h (w, p) = λ items is. to_late_again s aside off [] [] h w p items is
-  behind_on moments.Last s aside off h (w, p) = λ items are. to_long_targets s off [] [] h w p items are
+  behind_on : (moment : Moment) (s : State) (kept aside : List Item) (off : PutOff) (h : Graph) → looks_again off ≡ false → IsSettling E word_of value b before moment (Values moment) s kept [] aside off h
+      → IsAfter E word_of value b before begin.scope (next_phase (Values moment) false) s kept aside off h
+  behind_on moments.First s kept aside off h over p = absurd p
+  behind_on moments.Led s kept aside off h over (w, p) = λ items is. to_again s aside off [] none_off h over w p items is
+  behind_on moments.Picked s kept aside off h over (w, p) = λ items is. to_late_again s aside off [] none_off h over w p items is
+  behind_on moments.Last s kept aside off h over (w, p) = λ items are. to_long_targets s off [] none_off h over w p items are
 
   -- ---- all phases
 
-  pub turn : (phase : Phase) (s : State) (kept aside off : List Item) (h : Graph) → At phase s kept [] aside off h → IsAfter E word_of value b before (next_phase phase kept) s kept aside off h
+  pub turn : (phase : Phase) (s : State) (kept aside : List Item) (off : PutOff) (h : Graph) → At phase s kept [] aside off h → IsAfter E word_of value b before begin.scope (next_phase phase (looks_again off)) s kept aside off h
   turn (Keys moment) s kept aside off h p = λ items is. on_holders moment s kept aside off h p items is
   turn (KeysAgain moment) s kept aside off h p = λ items is. again_holders moment s kept aside off h p items is
   turn (Holders moment) s kept aside off h p = λ items is. on_values moment s kept aside off h p items is
-  turn (Values moment) s [] aside off h p = behind_on moment s aside off h p
-  turn (Values moment) s (x ∷ kept) aside off h p = λ items is. on_keys moment s (x ∷ kept) aside off h p items is
+  turn (Values moment) s kept aside off h p = by (looks_again off) refl
+    where
+      by : (more : Bool) → looks_again off ≡ more → IsAfter E word_of value b before begin.scope (next_phase (Values moment) more) s kept aside off h
+      by false over = behind_on moment s kept aside off h over p
+      by true again = λ items is. on_keys moment s kept aside off h p items is
   turn ShortCleanups s kept aside off h p = absurd p
   turn ShortTargets s kept aside off h p = λ items is. clears_begin E word_of value (λ links. with_links links b.ephemerons.short) before.objects b.short before.marked begin.short s kept items h p is
   turn ShortWords s kept aside off h p = λ items are. to_short_keys s aside off h p items are
@@ -317,8 +324,12 @@ module _ (E : Type 0) (word_of : ℕ → Option ℕ) (value : Map Object → ℕ
       )
   turn LongKeyHolders s kept aside off h (c, p) = λ items are.
       let all = holds_all E word_of value (λ others. after_picks E word_of value b before c (short_held E word_of value b before c) (long_held E word_of value b before c) (keys_held E word_of value b before c) others) (last E word_of value b before c)
-      (long_keys_left E word_of value b before c) c.kept s h p in
-      (c, cleaning_begins E word_of value Long (passed E word_of value b before c) (last E word_of value b before c) c.kept s items h all.0 all.1 all.2 (subst (λ (t : State). AreCleanups Long t.cleanups items) all.0 are))
+      (long_keys_left E word_of value b before c) c.kept s h p in (
+        c,
+        cleaning_begins E word_of value Long (passed E word_of value b before c) (last E word_of value b before c) c.kept begin.scope.cleanups s items h
+            (young_attached E word_of value b before begin c.kept (λ a on. c.settled.more a (c.marks.least a (inl (led_picked E word_of value b before begin c.first a (found_led E word_of value b before begin c.first.leading a on)))))) all.0 all.1 all.2
+            (subst (λ (t : State). AreCleanups begin.scope.cleanups Long t.cleanups items) all.0 are),
+      )
   turn LongCleanups s kept aside off h (c, p) =
       record { chosen = c; cleaned = cleaning_all E word_of value Long (passed E word_of value b before c) (last E word_of value b before c) c.kept s h p; objects_are = p.objects_are; marks_are = p.marks_are }
 

@@ -1,5 +1,5 @@
 -- Marks become whole: first the keys of ephemerons are asked for, then their holders, and then values are marked; and again for those that are put off.
-use Rattle.std.proofs.Common.{◌≡◌, ◌⊎◌, ◌++◌, ◌∷◌, ◌∙◌, [], ℕ, Bool, true, false, not, List, Option, Some, nat_cmp, refl, sym, ap, subst, inl, inr, ⊎_elim, IsTrue}
+use Rattle.std.proofs.Common.{◌≡◌, ◌⊎◌, ◌++◌, ◌∷◌, ◌∙◌, [], ℕ, Bool, true, false, cond, List, IsPermutation, Option, Some, nat_cmp, refl, sym, ap, subst, inl, inr, ⊎_elim, IsTrue}
 use Rattle.std.proofs.lemmas.Bool.{both_ways, true≢false}
 use Rattle.std.proofs.lemmas.Option.{none-some}
 use Rattle.std.specs.FinMap.{get, get-empty}
@@ -16,21 +16,24 @@ use Rattle.fz_machine.specs.declared.phase.Phase.TheVariants.{Keys, KeysAgain, H
 use Rattle.fz_machine.specs.declared.question.Ask.TheVariants.{IsMarked, IsHolderMarked, MarkValue}
 use Rattle.fz_machine.specs.Graph.{Graph, IsHonest, MayBeAsked}
 use Rattle.fz_machine.specs.Items.{AreEphemerons}
-use Rattle.fz_machine.specs.Phases.{asks, keeps, puts_off, subject}
-use Rattle.fz_machine.proofs.Among.{Each, OneOf, each_append, each_as, each_push, one_last, one_left, one_right}
+use Rattle.fz_machine.specs.Machines.{TellsIn}
+use Rattle.fz_machine.specs.Off.{PutOff, is_again, looked_at, looking, looks_again, put_off, stuck_with}
+use Rattle.fz_machine.specs.Phases.{asks, keeps, subject}
+use Rattle.fz_machine.proofs.Among.{Each, OneOf, each_append, each_as, each_parts, each_permuted, each_push, one_last, one_left, one_part, one_permuted, one_right}
 use Rattle.fz_machine.proofs.Entered.{links_all, links_each}
 use Rattle.fz_machine.proofs.Phasing.{kept_on}
 use Rattle.fz_machine.proofs.Sifting.{IsAt}
+use Rattle.fz_machine.proofs.Delayed.{all_off, all_with, tells_again, tells_moves}
 
--- whether a value was marked in this round: then it is kept
-abbrev pub is_again : List Item → Bool
-is_again [] = false
-is_again (item ∷ kept) = true
+-- no value was marked
+none_marked : (again answer : Bool) → cond answer true again ≡ false → (answer ≡ false) × (again ≡ false)
+none_marked again true off = absurd (true≢false off)
+none_marked again false off = (refl, off)
 
-none_kept : (kept : List Item) (item : Item) (answer : Bool) → is_again (kept_on answer kept item) ≡ false → (answer ≡ false) × (is_again kept ≡ false)
-none_kept kept item false off = (refl, off)
-none_kept [] item true off = absurd (true≢false off)
-none_kept (x ∷ kept) item true off = absurd (true≢false off)
+-- no round follows, so no value was marked
+not_again : (again : Bool) (told : List Item) → is_again again told ≡ false → again ≡ false
+not_again again [] off = off
+not_again again (item ∷ told) off = absurd (true≢false off)
 
 module _ (E : Type 0) (word_of : ℕ → Option ℕ) (value : Map Object → ℕ → Option ℕ) (objects : Map Object) (ephemerons : Ephemerons) (old : ℕ → Bool) where
   abbrev pub IsRow : Item → Type 0
@@ -60,28 +63,28 @@ module _ (E : Type 0) (word_of : ℕ → Option ℕ) (value : Map Object → ℕ
   AreAll kept left off m =
       (word key : ℕ) → IsOfKey ephemerons word key → OneOf (IsAt key word) kept ⊎ (OneOf (IsAt key word) left ⊎ (OneOf (IsAt key word) off ⊎ IsThrough E word_of value objects m (word, key)))
 
-  pub record Sweeps (Left Kept : (ℕ → Bool) → Item → Type 0) (kept left off : List Item) (h : Graph) : Type 0 where
-    pub settling : Settling off false h
+  pub record Sweeps (Left Kept : (ℕ → Bool) → Item → Type 0) (kept left off : List Item) (again : Bool) (h : Graph) : Type 0 where
+    pub settling : Settling off again h
     pub kept_are : Each (Kept h.marked) kept
     pub left_are : Each (Left h.marked) left
     pub all : AreAll kept left off h.marked
 
-  pub record Marking (kept left off : List Item) (h : Graph) : Type 0 where
-    pub settling : Settling off (is_again kept) h
+  pub record Marking (left off : List Item) (again : Bool) (h : Graph) : Type 0 where
+    pub settling : Settling off again h
     pub left_are : Each (HasBoth h.marked) left
     pub all : AreAll [] left off h.marked
 
-  abbrev pub Looks : Phase → List Item → List Item → List Item → Graph → Type 0
-  Looks (Keys moment) kept left off h = Sweeps (λ m. IsRow) HasKey kept left off h
-  Looks (KeysAgain moment) kept left off h = Sweeps (λ m. IsRow) HasKey kept left off h
-  Looks (Holders moment) kept left off h = Sweeps HasKey HasBoth kept left off h
-  Looks (Values moment) kept left off h = Marking kept left off h
+  abbrev pub Looks : Phase → List Item → List Item → PutOff → Graph → Type 0
+  Looks (Keys moment) kept left off h = Sweeps (λ m. IsRow) HasKey kept left (all_off off) off.again h
+  Looks (KeysAgain moment) kept left off h = Sweeps (λ m. IsRow) HasKey kept left (all_off off) off.again h
+  Looks (Holders moment) kept left off h = Sweeps HasKey HasBoth kept left (all_off off) off.again h
+  Looks (Values moment) kept left off h = Marking left (all_off off) off.again h
   Looks phase kept left off h = ⊥
 
   -- ---- one answer
 
-  module _ (Left Kept : (ℕ → Bool) → Item → Type 0) (kept left off : List Item) (item : Item) (h : Graph) (s : Sweeps Left Kept kept (item ∷ left) off h) where
-    passes : Kept h.marked item → Sweeps Left Kept (kept ++ item ∷ []) left off h
+  module _ (Left Kept : (ℕ → Bool) → Item → Type 0) (kept left off : List Item) (again : Bool) (item : Item) (h : Graph) (s : Sweeps Left Kept kept (item ∷ left) off again h) where
+    passes : Kept h.marked item → Sweeps Left Kept (kept ++ item ∷ []) left off again h
     passes on = record {
       settling = s.settling;
       kept_are = each_push (Kept h.marked) kept item s.kept_are on;
@@ -94,8 +97,8 @@ module _ (E : Type 0) (word_of : ℕ → Option ℕ) (value : Map Object → ℕ
         by word key (inl at) = inl (one_last (IsAt key word) kept item at)
         by word key (inr k) = inr (inl k)
 
-    put_off : IsRow item → IsWaiting h.marked item → Sweeps Left Kept kept left (off ++ item ∷ []) h
-    put_off row waits = record {
+    stays : IsRow item → IsWaiting h.marked item → Sweeps Left Kept kept left (off ++ item ∷ []) again h
+    stays row waits = record {
       settling = record {
         objects_are = s.settling.objects_are;
         closed = s.settling.closed;
@@ -115,27 +118,36 @@ module _ (E : Type 0) (word_of : ℕ → Option ℕ) (value : Map Object → ℕ
         by word key (inl at) = inr (inr (inl (one_last (IsAt key word) off item at)))
         by word key (inr k) = inr (inl k)
 
+  module _ (Left Kept : (ℕ → Bool) → Item → Type 0) (kept left : List Item) (off : PutOff) (item : Item) (h : Graph) (s : Sweeps Left Kept kept (item ∷ left) (all_off off) off.again h) where
+    abbrev SweepsOn : List Item → PutOff → Graph → Type 0
+    SweepsOn now past new = Sweeps Left Kept now left (all_off past) past.again new
+
     -- as the test of this phase says
     sweeps_on : (test answer : Bool) → answer ≡ test → IsRow item → (test ≡ true → Kept h.marked item) → (test ≡ false → IsWaiting h.marked item)
-        → Sweeps Left Kept (kept_on answer kept item) left (kept_on (not answer) off item) h
-    sweeps_on test true is row on off = passes (on (sym is))
-    sweeps_on test false is row on off = put_off row (off (sym is))
+        → SweepsOn (kept_on answer kept item) (cond answer off (stuck_with off item)) h
+    sweeps_on test true is row on waits = passes Left Kept kept left (all_off off) off.again item h s (on (sym is))
+    sweeps_on test false is row on waits =
+        subst (λ xs. Sweeps Left Kept kept left xs off.again h) (sym (all_with off item)) (stays Left Kept kept left (all_off off) off.again item h s row (waits (sym is)))
 
-  keys_on : (kept left off : List Item) (item : Item) (h new : Graph) → Sweeps (λ m. IsRow) HasKey kept (item ∷ left) off h → (answer : Bool) → IsHonest E word_of value (Some IsMarked) item.object h answer new
-      → Sweeps (λ m. IsRow) HasKey (kept_on answer kept item) left (kept_on (not answer) off item) new
-  keys_on kept left off item h new s answer honest =
-      let is = honest tt in
-      subst (λ (x : Graph). Sweeps (λ m. IsRow) HasKey (kept_on answer kept item) left (kept_on (not answer) off item) x) (sym is.1)
-      (sweeps_on (λ m. IsRow) HasKey kept left off item h s (h.marked item.object) answer is.0 s.left_are.0 (λ on. (s.left_are.0, on)) (λ off key. absurd (both_ways (h.marked item.object) off key)))
+  module _ (kept left : List Item) (off : PutOff) (item : Item) (h new : Graph) where
+    keys_on : Sweeps (λ m. IsRow) HasKey kept (item ∷ left) (all_off off) off.again h → (answer : Bool) → IsHonest E word_of value (Some IsMarked) item.object h answer new
+        → Sweeps (λ m. IsRow) HasKey (kept_on answer kept item) left (all_off (cond answer off (stuck_with off item))) (cond answer off (stuck_with off item)).again new
+    keys_on s answer honest =
+        let is = honest tt in
+        let row = s.left_are.0 in
+        let now : PutOff = cond answer off (stuck_with off item) in
+        subst (λ (x : Graph). Sweeps (λ m. IsRow) HasKey (kept_on answer kept item) left (all_off now) now.again x) (sym is.1)
+        (sweeps_on (λ m. IsRow) HasKey kept left off item h s (h.marked item.object) answer is.0 row (λ on. (row, on)) (λ none key. absurd (both_ways (h.marked item.object) none key)))
 
-  holders_on : (kept left off : List Item) (item : Item) (h new : Graph) → Sweeps HasKey HasBoth kept (item ∷ left) off h → (answer : Bool) → IsHonest E word_of value (Some IsHolderMarked) item.word h answer new
-      → Sweeps HasKey HasBoth (kept_on answer kept item) left (kept_on (not answer) off item) new
-  holders_on kept left off item h new s answer honest =
-      let is = honest tt in
-      let held : Bool = is_held word_of objects h.marked item.word in
-      subst (λ (x : Graph). Sweeps HasKey HasBoth (kept_on answer kept item) left (kept_on (not answer) off item) x) (sym is.1)
-      (sweeps_on HasKey HasBoth kept left off item h s held answer (is.0 ∙ ap (λ (m : Map Object). is_held word_of m h.marked item.word) s.settling.objects_are) s.left_are.0.0
-      (λ on. (s.left_are.0, on)) (λ off key holder. absurd (both_ways held off holder)))
+    holders_on : Sweeps HasKey HasBoth kept (item ∷ left) (all_off off) off.again h → (answer : Bool) → IsHonest E word_of value (Some IsHolderMarked) item.word h answer new
+        → Sweeps HasKey HasBoth (kept_on answer kept item) left (all_off (cond answer off (stuck_with off item))) (cond answer off (stuck_with off item)).again new
+    holders_on s answer honest =
+        let is = honest tt in
+        let held : Bool = is_held word_of objects h.marked item.word in
+        let now : PutOff = cond answer off (stuck_with off item) in
+        subst (λ (x : Graph). Sweeps HasKey HasBoth (kept_on answer kept item) left (all_off now) now.again x) (sym is.1)
+        (sweeps_on HasKey HasBoth kept left off item h s held answer (is.0 ∙ ap (λ (m : Map Object). is_held word_of m h.marked item.word) s.settling.objects_are) s.left_are.0.0
+        (λ on. (s.left_are.0, on)) (λ none key holder. absurd (both_ways held none holder)))
 
   -- a holder stays marked
   held_still : (now new : ℕ → Bool) → ((a : ℕ) → IsTrue (now a) → IsTrue (new a)) → (w : ℕ) → IsTrue (is_held word_of objects now w) → IsTrue (is_held word_of objects new w)
@@ -144,7 +156,7 @@ module _ (E : Type 0) (word_of : ℕ → Option ℕ) (value : Map Object → ℕ
   no_row : (word key : ℕ) → ephemerons ≡ no_ephemerons → IsOfKey ephemerons word key → ⊥
   no_row word key none = ⊎_elim (λ here. none-some key (sym (ap (λ (e : Ephemerons). get e.short word) none ∙ get-empty nat_cmp word) ∙ here)) (λ here. none-some key (sym (ap (λ (e : Ephemerons). get e.long word) none ∙ get-empty nat_cmp word) ∙ here))
 
-  module _ (kept left off : List Item) (item : Item) (h new : Graph) (s : Marking kept (item ∷ left) off h) (answer : Bool) (same : new.objects ≡ h.objects) (m : Marks E objects h.marked new.marked (IsOfValue value objects item.word))
+  module _ (left off : List Item) (again : Bool) (item : Item) (h new : Graph) (s : Marking (item ∷ left) off again h) (answer : Bool) (same : new.objects ≡ h.objects) (m : Marks E objects h.marked new.marked (IsOfValue value objects item.word))
       (nothing : answer ≡ false → (a : ℕ) → IsTrue (new.marked a) → IsTrue (h.marked a)) where
     on_still : (a : ℕ) → IsTrue (h.marked a) → IsTrue (new.marked a)
     on_still a on = m.least a (inl on)
@@ -155,7 +167,7 @@ module _ (E : Type 0) (word_of : ℕ → Option ℕ) (value : Map Object → ℕ
     still_both : (x : Item) → HasBoth h.marked x → HasBoth new.marked x
     still_both x on = ((on.0.0, on_still x.object on.0.1), held_still h.marked new.marked on_still x.word on.1)
 
-    marks_value : Marking (kept_on answer kept item) left off new
+    marks_value : Marking left off (cond answer true again) new
     marks_value = record {
       settling = record {
         objects_are = same ∙ s.settling.objects_are;
@@ -165,7 +177,7 @@ module _ (E : Type 0) (word_of : ℕ → Option ℕ) (value : Map Object → ℕ
             (λ of. holds_value word_of value objects (IsOfKey ephemerons) (λ b. IsTrue (old b)) h.marked (s.settling.most exact) item.word item.object s.left_are.0.0.0 s.left_are.0.0.1 s.left_are.0.1 a of) (m.most exact a on);
         none = λ nothing_there. absurd (no_row item.word item.object nothing_there s.left_are.0.0.0);
         off_are = s.settling.off_are;
-        waits = λ none. let both = none_kept kept item answer none in each_as (IsWaiting h.marked) (IsWaiting new.marked) (still_waits both.0) off (s.settling.waits both.1);
+        waits = λ none. let both = none_marked again answer none in each_as (IsWaiting h.marked) (IsWaiting new.marked) (still_waits both.0) off (s.settling.waits both.1);
       };
       left_are = each_as (HasBoth h.marked) (HasBoth new.marked) still_both left s.left_are.1;
       all = λ word key of. ⊎_elim inl (⊎_elim (by word key) (⊎_elim (λ k. inr (inr (inl k))) (λ on. inr (inr (inr (λ v points. on_still v (on v points))))))) (s.all word key of);
@@ -176,29 +188,60 @@ module _ (E : Type 0) (word_of : ℕ → Option ℕ) (value : Map Object → ℕ
         by word key (inl at) = inr (inr (inr (λ v points. m.least v (inr (v, ap (value objects) at.1 ∙ points, Itself)))))
         by word key (inr k) = inr (inl k)
 
-  values_on : (kept left off : List Item) (item : Item) (h new : Graph) → Marking kept (item ∷ left) off h → (answer : Bool) → IsHonest E word_of value (Some MarkValue) item.word h answer new → Marking (kept_on answer kept item) left off new
-  values_on kept left off item h new s answer honest =
+  values_on : (left : List Item) (off : PutOff) (item : Item) (h new : Graph) → Marking (item ∷ left) (all_off off) off.again h → (answer : Bool) → IsHonest E word_of value (Some MarkValue) item.word h answer new
+      → Marking left (all_off (cond answer (record off { again = true }) off)) (cond answer (record off { again = true }) off).again new
+  values_on left off item h new s answer honest =
       let is = honest (subst (λ (m : Map Object). IsClosed m h.marked) (sym s.settling.objects_are) s.settling.closed) in
-      marks_value kept left off item h new s answer is.0.0 (subst (λ (m : Map Object). Marks E m h.marked new.marked (IsOfValue value m item.word)) s.settling.objects_are is.0.1) is.1
+      let m = subst (λ (k : Map Object). Marks E k h.marked new.marked (IsOfValue value k item.word)) s.settling.objects_are is.0.1 in
+      by answer (marks_value left (all_off off) off.again item h new s answer is.0.0 m is.1)
+    where
+      by : (b : Bool) → Marking left (all_off off) (cond b true off.again) new → Marking left (all_off (cond b (record off { again = true }) off)) (cond b (record off { again = true }) off).again new
+      by true on = on
+      by false on = on
 
-  pub looks_on : (phase : Phase) (kept left off : List Item) (item : Item) (h new : Graph) → Looks phase kept (item ∷ left) off h → (answer : Bool) → IsHonest E word_of value (asks phase item) (subject phase item) h answer new
-      → Looks phase (kept_on (keeps phase item answer) kept item) left (kept_on (puts_off phase answer) off item) new
+  pub looks_on : (phase : Phase) (kept left : List Item) (off : PutOff) (item : Item) (h new : Graph) → Looks phase kept (item ∷ left) off h → (answer : Bool) → IsHonest E word_of value (asks phase item) (subject phase item) h answer new
+      → Looks phase (kept_on (keeps phase item answer) kept item) left (put_off phase item answer off) new
   looks_on (Keys moment) kept left off item h new s answer honest = keys_on kept left off item h new s answer honest
   looks_on (KeysAgain moment) kept left off item h new s answer honest = keys_on kept left off item h new s answer honest
   looks_on (Holders moment) kept left off item h new s answer honest = holders_on kept left off item h new s answer honest
-  looks_on (Values moment) kept left off item h new s answer honest = values_on kept left off item h new s answer honest
+  looks_on (Values moment) kept left off item h new s answer honest = values_on left off item h new s answer honest
   looks_on phase kept left off item h new s answer honest = absurd s
 
-  pub looks_may : (phase : Phase) (kept left off : List Item) (item : Item) (h : Graph) → Looks phase kept (item ∷ left) off h → MayBeAsked (asks phase item) (subject phase item) h
+  pub looks_may : (phase : Phase) (kept left : List Item) (off : PutOff) (item : Item) (h : Graph) → Looks phase kept (item ∷ left) off h → MayBeAsked (asks phase item) (subject phase item) h
   looks_may (Keys moment) kept left off item h s = tt
   looks_may (KeysAgain moment) kept left off item h s = tt
   looks_may (Holders moment) kept left off item h s = tt
   looks_may (Values moment) kept left off item h s = subst (λ (m : Map Object). IsClosed m h.marked) (sym s.settling.objects_are) s.settling.closed
   looks_may phase kept left off item h s = absurd s
 
+  -- ---- the host tells a key
+
+  settling_moved : (was now : List Item) (again : Bool) (h : Graph) → IsPermutation was now → Settling was again h → Settling now again h
+  settling_moved was now again h moves s = record {
+    objects_are = s.objects_are;
+    closed = s.closed;
+    more = s.more;
+    most = s.most;
+    none = s.none;
+    off_are = each_permuted IsRow was now moves s.off_are;
+    waits = λ none. each_permuted (IsWaiting h.marked) was now moves (s.waits none);
+  }
+
+  marking_moved : (left was now : List Item) (again : Bool) (h : Graph) → IsPermutation was now → Marking left was again h → Marking left now again h
+  marking_moved left was now again h moves s = record {
+    settling = settling_moved was now again h moves s.settling;
+    left_are = s.left_are;
+    all = λ word key of. ⊎_elim inl (⊎_elim (λ k. inr (inl k)) (⊎_elim (λ k. inr (inr (inl (one_permuted (IsAt key word) was now moves k)))) (λ on. inr (inr (inr on))))) (s.all word key of);
+  }
+
+  pub looks_told : (key : ℕ) (phase : Phase) (kept left : List Item) (was now : PutOff) (h : Graph) → TellsIn (Some phase) key was now → Looks phase kept left was h → Looks phase kept left now h
+  looks_told key (Values moment) kept left was now h told s =
+      subst (λ b. Marking left (all_off now) b h) (sym (tells_again key was now told)) (marking_moved left (all_off was) (all_off now) was.again h (tells_moves key was now told) s)
+  looks_told key phase kept left was now h told s = subst (λ (off : PutOff). Looks phase kept left off h) (sym told) s
+
   -- ---- from phase to phase
 
-  pub looks_begin : (items : List Item) (h : Graph) → h.objects ≡ objects → h.marked ≡ old → IsClosed objects old → AreEphemerons ephemerons items → Sweeps (λ m. IsRow) HasKey [] items [] h
+  pub looks_begin : (items : List Item) (h : Graph) → h.objects ≡ objects → h.marked ≡ old → IsClosed objects old → AreEphemerons ephemerons items → Sweeps (λ m. IsRow) HasKey [] items [] false h
   looks_begin items h objects_are marks_are closed (shorts, longs, short_are, long_are, is) = record {
     settling = record {
       objects_are = objects_are;
@@ -217,7 +260,7 @@ module _ (E : Type 0) (word_of : ℕ → Option ℕ) (value : Map Object → ℕ
         (⊎_elim (λ here. one_left (IsAt key word) shorts longs (links_all ephemerons.short shorts short_are key word here)) (λ here. one_right (IsAt key word) shorts longs (links_all ephemerons.long longs long_are key word here)) of)));
   }
 
-  pub to_holders : (kept items off : List Item) (h : Graph) → Sweeps (λ m. IsRow) HasKey kept [] off h → items ≡ kept → Sweeps HasKey HasBoth [] items off h
+  pub to_holders : (kept items : List Item) (off : PutOff) (h : Graph) → Sweeps (λ m. IsRow) HasKey kept [] (all_off off) off.again h → items ≡ kept → Sweeps HasKey HasBoth [] items (all_off off) off.again h
   to_holders kept items off h s is = record {
     settling = s.settling;
     kept_are = tt;
@@ -225,40 +268,59 @@ module _ (E : Type 0) (word_of : ℕ → Option ℕ) (value : Map Object → ℕ
     all = λ word key of. inr (⊎_elim (λ k. inl (subst (OneOf (IsAt key word)) (sym is) k)) (⊎_elim (λ k. absurd k) (λ others. inr others)) (s.all word key of));
   }
 
-  pub to_values : (kept items off : List Item) (h : Graph) → Sweeps HasKey HasBoth kept [] off h → items ≡ kept → Marking [] items off h
+  pub to_values : (kept items : List Item) (off : PutOff) (h : Graph) → Sweeps HasKey HasBoth kept [] (all_off off) off.again h → items ≡ kept → Marking items (all_off off) off.again h
   to_values kept items off h s is = record {
     settling = s.settling;
     left_are = subst (Each (HasBoth h.marked)) (sym is) s.kept_are;
     all = λ word key of. inr (⊎_elim (λ k. inl (subst (OneOf (IsAt key word)) (sym is) k)) (⊎_elim (λ k. absurd k) (λ others. inr others)) (s.all word key of));
   }
 
-  -- those that were put off are looked at again
-  pub to_keys : (kept items off : List Item) (h : Graph) → Marking kept [] off h → items ≡ off → Sweeps (λ m. IsRow) HasKey [] items [] h
-  to_keys kept items off h s is = record {
+  -- some of those that were put off are looked at again; if these are all, what is marked from now on counts
+  to_some : (off items rest : List Item) (again now : Bool) (h : Graph) → Marking [] off again h → ((P : Item → Type 0) → Each P off → Each P items × Each P rest) → ((P : Item → Type 0) → OneOf P off → OneOf P items ⊎ OneOf P rest)
+      → (now ≡ false → (P : Item → Type 0) → (again ≡ false → Each P off) → Each P rest) → Sweeps (λ m. IsRow) HasKey [] items rest now h
+  to_some off items rest again now h s each one calm = record {
     settling = record {
       objects_are = s.settling.objects_are;
       closed = s.settling.closed;
       more = s.settling.more;
       most = s.settling.most;
       none = s.settling.none;
-      off_are = tt;
-      waits = λ _. tt;
+      off_are = (each IsRow s.settling.off_are).1;
+      waits = λ none. calm none (IsWaiting h.marked) s.settling.waits;
     };
     kept_are = tt;
-    left_are = subst (Each IsRow) (sym is) s.settling.off_are;
-    all = λ word key of. inr (⊎_elim (λ k. absurd k) (⊎_elim (λ k. absurd k) (⊎_elim (λ k. inl (subst (OneOf (IsAt key word)) (sym is) k)) (λ on. inr (inr on)))) (s.all word key of));
+    left_are = (each IsRow s.settling.off_are).0;
+    all = λ word key of. inr (⊎_elim (λ k. absurd k) (⊎_elim (λ k. absurd k) (⊎_elim (λ k. ⊎_elim inl (λ r. inr (inl r)) (one (IsAt key word) k)) (λ on. inr (inr on)))) (s.all word key of));
   }
+
+  -- those whose keys were told, or all
+  pub to_keys : (items : List Item) (off : PutOff) (h : Graph) → Marking [] (all_off off) off.again h → items ≡ looked_at off → Sweeps (λ m. IsRow) HasKey [] items (all_off (looking off)) (looking off).again h
+  to_keys items off h s is = subst (λ xs. Sweeps (λ m. IsRow) HasKey [] xs (all_off (looking off)) (looking off).again h) (sym is) (by off.told s)
+    where
+      with_told : List Item → PutOff
+      with_told told = record off { told = told }
+
+      by : (told : List Item) → Marking [] (all_off (with_told told)) off.again h
+          → Sweeps (λ m. IsRow) HasKey [] (looked_at (with_told told)) (all_off (looking (with_told told))) (looking (with_told told)).again h
+      by [] p = to_some (off.index ++ off.stuck) (off.stuck ++ off.index) [] off.again false h p
+          (λ P all. let parts = each_parts P off.index off.stuck all in (each_append P off.stuck off.index parts.1 parts.0, tt))
+          (λ P k. inl (⊎_elim (λ i. one_right P off.stuck off.index i) (λ t. one_left P off.stuck off.index t) (one_part P off.index off.stuck k)))
+          (λ none P waits. tt)
+      by (item ∷ told) p = to_some ((item ∷ told) ++ (off.index ++ off.stuck)) (item ∷ told) (off.index ++ off.stuck) off.again off.again h p
+          (λ P all. each_parts P (item ∷ told) (off.index ++ off.stuck) all)
+          (λ P k. one_part P (item ∷ told) (off.index ++ off.stuck) k)
+          (λ none P waits. (each_parts P (item ∷ told) (off.index ++ off.stuck) (waits none)).1)
 
   waiting_row : (m : ℕ → Bool) (word key : ℕ) (off : List Item) → Each (IsWaiting m) off → OneOf (IsAt key word) off → Waits E word_of value objects m (word, key)
   waiting_row m word key [] waits k = absurd k
   waiting_row m word key (x ∷ off) waits (inl at) = λ on held. waits.0 (ap m at.0 ∙ on) (ap (is_held word_of objects m) at.1 ∙ held)
   waiting_row m word key (x ∷ off) waits (inr k) = waiting_row m word key off waits.1 k
 
-  -- no value was marked, so the marks are whole
-  pub is_settled : (off : List Item) (h : Graph) → Marking [] [] off h → Settles word_of value objects (IsOfKey ephemerons) E old h.marked
-  is_settled off h s = record {
+  -- no round follows, so the marks are whole
+  pub is_settled : (off : PutOff) (h : Graph) → looks_again off ≡ false → Marking [] (all_off off) off.again h → Settles word_of value objects (IsOfKey ephemerons) E old h.marked
+  is_settled off h over s = record {
     more = s.settling.more;
     whole = whole_from word_of value objects (IsOfKey ephemerons) h.marked s.settling.closed
-        (λ word key of on held v points. ⊎_elim (λ k. absurd k) (⊎_elim (λ k. absurd k) (⊎_elim (λ k. absurd (waiting_row h.marked word key off (s.settling.waits refl) k on held)) (λ through. through v points))) (s.all word key of));
+        (λ word key of on held v points. ⊎_elim (λ k. absurd k) (⊎_elim (λ k. absurd k) (⊎_elim (λ k. absurd (waiting_row h.marked word key (all_off off) (s.settling.waits (not_again off.again off.told over)) k on held)) (λ through. through v points))) (s.all word key of));
     most = s.settling.most;
   }

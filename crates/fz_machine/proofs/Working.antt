@@ -16,7 +16,8 @@ use Rattle.fz_machine.specs.declared.phase.Phase.{Phase}
 use Rattle.fz_machine.specs.declared.phase.Phase.TheVariants.{Keys, KeysAgain, Holders, Values, ShortCleanups, ShortTargets, ShortWords, ShortKeys, ShortKeyWords, Objects, Children, Again, Picks, LateAgain, LatePicks, LongTargets, LongWords, LongKeys, LongKeyWords, ShortHolders, LongHolders, ShortKeyHolders, LongKeyHolders, LongCleanups}
 use Rattle.fz_machine.specs.Machines as machines
 use Rattle.fz_machine.specs.Machines.{IsWork, Works}
-use Rattle.fz_machine.specs.Phases.{Lists, after, asks, given, keeps, next_phase, puts_off, without_key}
+use Rattle.fz_machine.specs.Off.{looks_again, put_off}
+use Rattle.fz_machine.specs.Phases.{Scope, Lists, after, asks, given, keeps, next_phase, without_key}
 use Rattle.fz_machine.specs.Steps.{Asks, Begins, Ends, Going, GoesOn, Turns, skip, skipped, step, stepped, steps}
 use Rattle.fz_machine.proofs.Phasing.{kept_on}
 use Rattle.fz_machine.proofs.Throughout as throughout
@@ -89,7 +90,7 @@ module _ (taken : ℕ) (held : List Entry) where
       where
         by : (xs : List Item) → stepped phase answer (going_apart g) xs ≡ going_apart (stepped phase answer g xs)
         by [] = refl
-        by (item ∷ left) = λ i. record { finalizers = after_apart phase item answer g.finalizers i; kept = kept_on (keeps phase item answer) g.kept item; left = left; aside = g.aside; off = kept_on (puts_off phase answer) g.off item }
+        by (item ∷ left) = λ i. record { finalizers = after_apart phase item answer g.finalizers i; kept = kept_on (keeps phase item answer) g.kept item; left = left; aside = g.aside; off = put_off phase item answer g.off }
 
     pub steps_apart : (answers : List Bool) (g : Going) → steps phase answers (going_apart g) ≡ going_apart (steps phase answers g)
     steps_apart [] g = refl
@@ -107,43 +108,43 @@ module _ (taken : ℕ) (held : List Entry) where
     skip_apart : (g : Going) → skip phase (going_apart g) ≡ going_apart (skip phase g)
     skip_apart g = skipped_apart g.left g
 
-  lists_apart : (phase : Phase) (s : State) (kept items : List Item) → Lists phase s kept items → Lists phase (apart s) kept items
-  lists_apart (Keys moment) s kept items is = is
-  lists_apart (KeysAgain moment) s kept items is = is
-  lists_apart (Holders moment) s kept items is = is
-  lists_apart (Values moment) s kept items is = is
-  lists_apart ShortCleanups s kept items is = is
-  lists_apart ShortTargets s kept items is = is
-  lists_apart ShortWords s kept items is = is
-  lists_apart ShortKeys s kept items is = is
-  lists_apart ShortKeyWords s kept items is = is
-  lists_apart Objects s kept items is = is
-  lists_apart Children s kept items is = is
-  lists_apart Again s kept items is = is
-  lists_apart Picks s kept items is = is
-  lists_apart LateAgain s kept items is = is
-  lists_apart LatePicks s kept items is = is
-  lists_apart LongTargets s kept items is = is
-  lists_apart LongWords s kept items is = is
-  lists_apart LongKeys s kept items is = is
-  lists_apart LongKeyWords s kept items is = is
-  lists_apart ShortHolders s kept items is = is
-  lists_apart LongHolders s kept items is = is
-  lists_apart ShortKeyHolders s kept items is = is
-  lists_apart LongKeyHolders s kept items is = is
-  lists_apart LongCleanups s kept items is = is
+  lists_apart : (phase : Phase) (scope : Scope) (s : State) (kept items : List Item) → Lists phase scope s kept items → Lists phase scope (apart s) kept items
+  lists_apart (Keys moment) scope s kept items is = is
+  lists_apart (KeysAgain moment) scope s kept items is = is
+  lists_apart (Holders moment) scope s kept items is = is
+  lists_apart (Values moment) scope s kept items is = is
+  lists_apart ShortCleanups scope s kept items is = is
+  lists_apart ShortTargets scope s kept items is = is
+  lists_apart ShortWords scope s kept items is = is
+  lists_apart ShortKeys scope s kept items is = is
+  lists_apart ShortKeyWords scope s kept items is = is
+  lists_apart Objects scope s kept items is = is
+  lists_apart Children scope s kept items is = is
+  lists_apart Again scope s kept items is = is
+  lists_apart Picks scope s kept items is = is
+  lists_apart LateAgain scope s kept items is = is
+  lists_apart LatePicks scope s kept items is = is
+  lists_apart LongTargets scope s kept items is = is
+  lists_apart LongWords scope s kept items is = is
+  lists_apart LongKeys scope s kept items is = is
+  lists_apart LongKeyWords scope s kept items is = is
+  lists_apart ShortHolders scope s kept items is = is
+  lists_apart LongHolders scope s kept items is = is
+  lists_apart ShortKeyHolders scope s kept items is = is
+  lists_apart LongKeyHolders scope s kept items is = is
+  lists_apart LongCleanups scope s kept items is = is
 
-  begins_apart : (phase : Phase) (g k : Going) → Begins phase g k → Begins phase (going_apart g) (going_apart k)
-  begins_apart phase g k begins = record { same = ap apart begins.same; none = begins.none; lists = lists_apart phase g.finalizers (given phase g.kept g.aside g.off) k.left begins.lists; aside = begins.aside; off = begins.off }
+  begins_apart : {scope : Scope} (phase : Phase) (g k : Going) → Begins scope phase g k → Begins scope phase (going_apart g) (going_apart k)
+  begins_apart {scope = scope} phase g k begins = record { same = ap apart begins.same; none = begins.none; lists = lists_apart phase scope g.finalizers (given phase g.kept g.aside g.off) k.left begins.lists; aside = begins.aside; off = begins.off }
 
-  pub goes_apart : (phase : Phase) (g : Going) (last : Option Phase) (k : Going) → GoesOn phase g last k → GoesOn phase (going_apart g) last (going_apart k)
-  goes_apart phase g last k (Asks item left some) =
-      subst (λ (m : Going). GoesOn phase (going_apart g) (Some phase) m) (skip_apart phase g) (Asks item left (ap (λ (m : Going). m.left) (skip_apart phase g) ∙ some))
-  goes_apart phase g last k (Turns {next = next} {h = h} none turns begins rest) =
-      Turns (ap (λ (m : Going). m.left) (skip_apart phase g) ∙ none) (ap (λ (m : Going). next_phase phase m.kept) (skip_apart phase g) ∙ turns)
-      (subst (λ (m : Going). Begins next m (going_apart h)) (sym (skip_apart phase g)) (begins_apart next (skip phase g) h begins)) (goes_apart next h last k rest)
-  goes_apart phase g last k (Ends none turns) =
-      subst (λ (m : Going). GoesOn phase (going_apart g) None m) (skip_apart phase g) (Ends (ap (λ (m : Going). m.left) (skip_apart phase g) ∙ none) (ap (λ (m : Going). next_phase phase m.kept) (skip_apart phase g) ∙ turns))
+  pub goes_apart : {scope : Scope} (phase : Phase) (g : Going) (last : Option Phase) (k : Going) → GoesOn scope phase g last k → GoesOn scope phase (going_apart g) last (going_apart k)
+  goes_apart {scope = scope} phase g last k (Asks item left some) =
+      subst (λ (m : Going). GoesOn scope phase (going_apart g) (Some phase) m) (skip_apart phase g) (Asks item left (ap (λ (m : Going). m.left) (skip_apart phase g) ∙ some))
+  goes_apart {scope = scope} phase g last k (Turns {next = next} {h = h} none turns begins rest) =
+      Turns (ap (λ (m : Going). m.left) (skip_apart phase g) ∙ none) (ap (λ (m : Going). next_phase phase (looks_again m.off)) (skip_apart phase g) ∙ turns)
+      (subst (λ (m : Going). Begins scope next m (going_apart h)) (sym (skip_apart phase g)) (begins_apart next (skip phase g) h begins)) (goes_apart next h last k rest)
+  goes_apart {scope = scope} phase g last k (Ends none turns) =
+      subst (λ (m : Going). GoesOn scope phase (going_apart g) None m) (skip_apart phase g) (Ends (ap (λ (m : Going). m.left) (skip_apart phase g) ∙ none) (ap (λ (m : Going). next_phase phase (looks_again m.off)) (skip_apart phase g) ∙ turns))
 
   -- a worker changes nothing else
   pub work_apart : (s t : State) (event : Event) → IsWork event → Follows s event t → apart t ≡ apart s
@@ -217,7 +218,7 @@ module _ (taken : ℕ) (held : List Entry) where
   keeps_works phase item answer s works =
       subst (λ (t : State). Works t (after phase item answer s)) (after_apart taken held phase item answer s) (works_after phase item answer (apart taken held s) s works)
 
-  pub goes_works : (phase : Phase) (answers : List Bool) (g : Going) (last : Option Phase) (k : Going) → GoesOn phase (steps phase answers g) last k → WorksAfter g.finalizers → WorksAfter k.finalizers
+  pub goes_works : {scope : Scope} (phase : Phase) (answers : List Bool) (g : Going) (last : Option Phase) (k : Going) → GoesOn scope phase (steps phase answers g) last k → WorksAfter g.finalizers → WorksAfter k.finalizers
   goes_works phase answers g last k goes works = throughout.goes_keep WorksAfter keeps_works phase (steps phase answers g) last k goes (throughout.steps_keep WorksAfter keeps_works phase answers g works)
 
   pub worked_on : (s t : State) (event : Event) → IsWork event → Follows s event t → WorksAfter s → WorksAfter t

@@ -8,6 +8,7 @@ use Rattle.fz_machine.specs.declared.phase.Moment.{Moment}
 use Rattle.fz_machine.specs.declared.phase.Moment.TheVariants.{First}
 use Rattle.fz_machine.specs.declared.phase.Phase.{Phase}
 use Rattle.fz_machine.specs.declared.phase.Phase.TheVariants.{Keys, KeysAgain, Holders, Values, ShortCleanups, ShortTargets, ShortWords, ShortKeys, ShortKeyWords, Objects, Again, LateAgain, LongTargets}
+use Rattle.fz_machine.specs.Off.{count_off}
 use Rattle.fz_machine.specs.Phases.{settles_in}
 use Rattle.fz_machine.specs.Regions.{Regions, AreNoted, items_in, items_of, objects_in}
 use Rattle.fz_machine.specs.Steps.{Going}
@@ -68,7 +69,7 @@ pub record HaveRoom (settling : Bool) (s : State) (walk : Walk) : Type 0 where
 -- what remains and what is kept can be put off, too
 abbrev pub HasRoomOff : Bool → Walk → Type 0
 HasRoomOff settling walk =
-    IsTrue settling → (length walk.kept + length walk.left + length walk.off ≤ walk.room) × (length walk.kept + length walk.left + length walk.off ≤ walk.off_room)
+    IsTrue settling → (length walk.kept + length walk.left + count_off walk.off ≤ walk.room) × (length walk.kept + length walk.left + count_off walk.off ≤ walk.off_room)
 
 -- no more regions are there than before, and no more of them remain
 pub record AreFewer (old new : Regions) : Type 0 where

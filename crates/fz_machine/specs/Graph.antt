@@ -2,6 +2,7 @@
 -- code: fz_machine/src/question.rt; fz_pass/src/host.rt
 use Rattle.std.specs.Prelude.{◌≡◌, ◌<◌, ◌^◌, ◌+◌, ◌*◌, ℕ, List, [], ◌∷◌, Bool, true, false, Option, Some, None, IsTrue, IsFalse}
 use Rattle.std.specs.FinMap.{get, contains_key}
+use Rattle.fz_model.specs.declared.answers.Registration.{Registration}
 use Rattle.fz_model.specs.Bits.{has_bit}
 use Rattle.fz_model.specs.Memory.{points}
 use Rattle.fz_model.specs.Reachability.{Leads}
@@ -9,6 +10,7 @@ use Rattle.fz_model.specs.State.{Map, Object}
 use Rattle.fz_pass.specs.Holds.{IsOfValue}
 use Rattle.fz_pass.specs.Marks.{IsClosed, Marks, IsLeadingBut, IsLastToMark, AreRegistered, AreTargets}
 use Rattle.fz_pass.specs.Places.{StandApart, written_at, is_held}
+use Rattle.fz_finalizers.specs.declared.cleanups.Attached.{Attached}
 use Rattle.fz_finalizers.specs.States.{State}
 use Rattle.fz_machine.specs.declared.question.Ask.{Ask}
 use Rattle.fz_machine.specs.declared.question.Ask.TheVariants.{IsMarked, MarkChildren, MarkOthers, Mark, MarkAlone, Clear, IsHolderMarked, MarkValue, Marks as AskMarks}
@@ -89,3 +91,8 @@ pub record MayBegin (place : ℕ → Option ℕ) (s : State) (g : Graph) : Type 
   pub births : (a : ℕ) (o : Object) → get g.objects a ≡ Some o → o.birth ≡ 0  -- no host is asked for births
   pub starts : (a : ℕ) → IsTrue (contains_key g.objects a) → a < 2 ^ 64  -- they are addresses
   pub apart : StandApart place
+
+-- the objects of registrations and cleanups before this number are marked
+pub record AreOldMarked (from : ℕ) (s : State) (g : Graph) : Type 0 where
+  pub registered : (object : ℕ) (r : Registration) → get s.registrations object ≡ Some r → r.number < from → IsTrue (g.marked object)
+  pub attached : (number : ℕ) (c : Attached) → get s.cleanups number ≡ Some c → number < from → IsTrue (g.marked c.object)

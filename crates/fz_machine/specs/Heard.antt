@@ -1,6 +1,6 @@
 -- What holds of a pass whatever the host answers: it ends, and consists of calls of the finalizers.
 -- code: fz_machine/src/law.rt
-use Rattle.std.specs.Prelude.{◌≡◌, ◌⊎◌, ℕ, suc, ◌+◌, ◌*◌, ◌≤◌, ◌<◌, Bool, List, length, Some}
+use Rattle.std.specs.Prelude.{◌≡◌, ℕ, suc, ◌+◌, ◌*◌, ◌≤◌, ◌<◌, Bool, List, length, Some}
 use Rattle.std.specs.FinMap.{len}
 use Rattle.fz_finalizers.specs.Promises.{Past, IsReached}
 use Rattle.fz_finalizers.specs.States.{State}
@@ -10,41 +10,44 @@ use Rattle.fz_machine.specs.declared.question.Question.{Question}
 use Rattle.fz_machine.specs.declared.question.TheConstants.{BATCH}
 use Rattle.fz_machine.specs.Going.{ephemerons_in}
 use Rattle.fz_machine.specs.Regions.{items_in}
-use Rattle.fz_machine.specs.Machines.{Machine, AsksRegions, IsBegun, GoesTo, IsAbandoned, IsWorked, PassesOver}
+use Rattle.fz_machine.specs.Machines.{Machine, AsksRegions, IsBegunFrom, GoesTo, IsAbandoned, IsTold, IsWorked, PassesOver}
 
 -- how many items the last question covers: those that it was about, or those in the regions that it was about
 abbrev pub covered : Machine → ℕ
 covered m = m.asked + length (items_in m.finalizers.state m.regions)
 
--- this many answers were processed since a pass began, for each question no more than it asked for; meanwhile workers take and finish entries
+-- this many answers were processed since a pass began, for each question no more than it asked for; meanwhile workers take and finish
+-- entries, and the host tells keys
 pub data Hears (begun : Machine) : Machine → ℕ → Type 0 where
   Begun : Hears begun begun 0
   Goes : {m new : Machine} {next : Next} {n : ℕ} (answers : List Bool) → length answers ≤ covered m → GoesTo m answers new next → Hears begun m n → Hears begun new (n + length answers)
   Meanwhile : {m new : Machine} {n : ℕ} → IsWorked m new → Hears begun m n → Hears begun new n
+  Told : {m new : Machine} {n : ℕ} (key : ℕ) → IsTold key m new → Hears begun m n → Hears begun new n
 
--- how often ephemerons may be asked about, if there are so many: three phases process those of each kind, and each of four times the marks are made whole by three
--- phases in each round, which are about all at first, and then about at least one fewer in each further round
+-- how often ephemerons may be asked about, if there are so many: three phases process those of each kind. Each of four times the marks are made whole in a round
+-- about all, and for each value that is marked in at most two more: one about those that were told, and one about all, of so many as still wait
 abbrev pub most_rows : ℕ → ℕ
-most_rows n = 3 * n + 6 * n * (n + 1)
+most_rows n = 3 * n + 4 * n * (2 * n + 1)
 
 -- six phases process registrations, three phases process the links of each kind, and one phase processes the cleanups of each moment
 abbrev pub most_answers : State → ℕ
 most_answers s = 6 * len s.registrations + 3 * (len s.short + len s.long) + len s.cleanups + most_rows (ephemerons_in s)
 
 abbrev pub PassesEnd : Type 0
-PassesEnd = (old begun m : Machine) (n : ℕ) → IsBegun old begun → Hears begun m n → n ≤ most_answers old.finalizers.state
+PassesEnd = (from : ℕ) (old begun m : Machine) (n : ℕ) → IsBegunFrom from old begun → Hears begun m n → n ≤ most_answers old.finalizers.state
 
--- this many questions about regions were answered since a pass began, each by `next_marks`; meanwhile other questions are answered, and workers take and
--- finish entries
+-- this many questions about regions were answered since a pass began, each by `next_marks`; meanwhile other questions are answered, workers take and finish
+-- entries, and the host tells keys
 pub data HearsMarks (begun : Machine) : Machine → ℕ → Type 0 where
   Opened : HearsMarks begun begun 0
   Marks : {m new : Machine} {n : ℕ} (question : Question) → m.phase ≡ Some Objects → AsksRegions m Objects question → PassesOver m new → HearsMarks begun m n → HearsMarks begun new (suc n)
   Others : {m new : Machine} {next : Next} {n : ℕ} (answers : List Bool) → GoesTo m answers new next → HearsMarks begun m n → HearsMarks begun new n
   Beside : {m new : Machine} {n : ℕ} → IsWorked m new → HearsMarks begun m n → HearsMarks begun new n
+  Keyed : {m new : Machine} {n : ℕ} (key : ℕ) → IsTold key m new → HearsMarks begun m n → HearsMarks begun new n
 
 -- at most one question for each 64 regions, and one for those left over
 abbrev pub RegionQuestionsEnd : Type 0
-RegionQuestionsEnd = (old begun m : Machine) (n : ℕ) → IsBegun old begun → HearsMarks begun m n → n * BATCH < old.tabled + BATCH
+RegionQuestionsEnd = (from : ℕ) (old begun m : Machine) (n : ℕ) → IsBegunFrom from old begun → HearsMarks begun m n → n * BATCH < old.tabled + BATCH
 
 -- calls lead to the state, and they take and finish no more than the given history
 pub record IsCalled (past : Past) (s : State) : Type 0 where
@@ -53,6 +56,12 @@ pub record IsCalled (past : Past) (s : State) : Type 0 where
   pub taken : later.taken ≡ past.taken
   pub finished : later.finished ≡ past.finished
 
--- calls lead through a pass, and to the state after one is abandoned
+-- calls lead through a pass, whatever keys are told, and to the state after one is abandoned
+pub data Proceeds (old new : Machine) : Type 0 where
+  Opens : (from : ℕ) → IsBegunFrom from old new → Proceeds old new
+  Answered : (answers : List Bool) (next : Next) → GoesTo old answers new next → Proceeds old new
+  Tells : (key : ℕ) → IsTold key old new → Proceeds old new
+  Abandons : IsAbandoned old new → Proceeds old new
+
 abbrev pub PassesAreCalls : Type 0
-PassesAreCalls = (old new : Machine) (past : Past) → IsReached old.finalizers.state past → IsBegun old new ⊎ (((answers : List Bool) × (next : Next) × GoesTo old answers new next) ⊎ IsAbandoned old new) → IsCalled past new.finalizers.state
+PassesAreCalls = (old new : Machine) (past : Past) → IsReached old.finalizers.state past → Proceeds old new → IsCalled past new.finalizers.state

@@ -1,10 +1,11 @@
 -- The items that phases process: links, ephemerons, registrations and cleanups.
 -- code: fz_machine/src/item.rt, listing.rt
-use Rattle.std.specs.Prelude.{◌≡◌, ℕ, ◌+◌, ◌*◌, ◌^◌, false, if◌then◌else◌, List, ◌++◌, map, nat_eq, All}
+use Rattle.std.specs.Prelude.{◌≡◌, ℕ, zero, suc, ◌+◌, ◌*◌, ◌^◌, false, if◌then◌else◌, List, ◌++◌, filter, map, nat_eq, nat_le, All, refl}
+use Rattle.std.specs.Coded.{Coded, code_by, coded×, coded_ℕ}
 use Rattle.std.specs.List.{IsDistinct}
 use Rattle.std.specs.List.Sorted.{IsPermutation, IsNonDecreasingBy}
 use Rattle.std.specs.Map.{keys_of}
-use Rattle.std.specs.FinMap.{from_entries}
+use Rattle.std.specs.FinMap.{from_entries, retain_keys}
 use Rattle.std.specs.FinSet.{contains}
 use Rattle.fz_model.specs.declared.answers.Registration.{Registration}
 use Rattle.fz_model.specs.State.{Map}
@@ -13,7 +14,8 @@ use Rattle.fz_table.specs.declared.stored.Stored.{Stored}
 use Rattle.fz_table.specs.Tabled.{Set, plain}
 use Rattle.fz_model.specs.declared.kinds.LinkKind.{LinkKind}
 use Rattle.fz_finalizers.specs.declared.cleanups.Attached.{Attached}
-use Rattle.fz_finalizers.specs.declared.kinds.Kind.TheVariants.{Normal, Unreachable}
+use Rattle.fz_finalizers.specs.declared.kinds.Kind.{Kind}
+use Rattle.fz_finalizers.specs.declared.kinds.Kind.TheVariants.{Normal, IgnoreSelf, NoOrder, Unreachable}
 use Rattle.fz_finalizers.specs.Cleanups.{AreDue, is_when}
 use Rattle.fz_finalizers.specs.Kinds.{of_table}
 use Rattle.fz_machine.specs.declared.item.Item.{Item}
@@ -49,14 +51,16 @@ AreLinks links items = (es : List (ℕ × ℕ)) × AreEntriesOf links es × (ite
 abbrev pub AreEphemerons : Ephemerons → List Item → Type 0
 AreEphemerons ephemerons items = (shorts : List Item) × (longs : List Item) × AreLinks ephemerons.short shorts × AreLinks ephemerons.long longs × (items ≡ shorts ++ longs)
 
--- the items are the registrations, each with its flag
-abbrev pub AreObjects : Map Registration → Set → List Item → Type 0
-AreObjects registrations late items =
-    (es : List (ℕ × Stored)) × AreEntriesOf registrations (map plain es) × All (λ (e : ℕ × Stored). e.1.unreachable ≡ contains late e.0) es × (items ≡ map of_stored es)
+-- the items are the registrations from this number on, each with its flag
+abbrev pub AreObjects : ℕ → Map Registration → Set → List Item → Type 0
+AreObjects from registrations late items =
+    (es : List (ℕ × Stored)) × AreEntriesOf registrations (map plain es) × All (λ (e : ℕ × Stored). e.1.unreachable ≡ contains late e.0) es
+    × (items ≡ map of_stored (filter (λ (e : ℕ × Stored). nat_le from e.1.number) es))
 
--- the items are the cleanups of this moment, in order
-abbrev pub AreCleanups : LinkKind → Map Attached → List Item → Type 0
-AreCleanups when cleanups items = (cs : List (ℕ × Attached)) × AreDue (λ (c : Attached). is_when when c.cleanup.when) cleanups cs × (items ≡ map of_cleanup cs)
+-- the items are the cleanups of this moment from this number on, in order
+abbrev pub AreCleanups : ℕ → LinkKind → Map Attached → List Item → Type 0
+AreCleanups from when cleanups items =
+    (cs : List (ℕ × Attached)) × AreDue (λ (c : Attached). is_when when c.cleanup.when) (retain_keys cleanups (nat_le from)) cs × (items ≡ map of_cleanup cs)
 
 -- an item's sort key: position in queue order, then address
 abbrev pub place_of : Item → ℕ
@@ -65,3 +69,29 @@ place_of item = item.turn * 2 ^ 64 + item.object
 -- the same items, sorted by this key
 abbrev pub AreInTurn : List Item → List Item → Type 0
 AreInTurn items ordered = IsPermutation items ordered × IsNonDecreasingBy place_of ordered
+
+abbrev kind_code : Coded Kind
+kind_code = code_by ℕ coded_ℕ to back same
+  where
+    to : Kind → ℕ
+    to Normal = 0
+    to IgnoreSelf = 1
+    to NoOrder = 2
+    to Unreachable = 3
+
+    back : ℕ → Kind
+    back zero = Normal
+    back (suc zero) = IgnoreSelf
+    back (suc (suc zero)) = NoOrder
+    back (suc (suc (suc n))) = Unreachable
+
+    same : (k : Kind) → back (to k) ≡ k
+    same Normal = refl
+    same IgnoreSelf = refl
+    same NoOrder = refl
+    same Unreachable = refl
+
+abbrev pub item_code : Coded Item
+item_code =
+    code_by (ℕ × (ℕ × (Kind × ℕ))) (coded× coded_ℕ (coded× coded_ℕ (coded× kind_code coded_ℕ))) (λ i. (i.object, (i.word, (i.kind, i.turn))))
+    (λ p. record { object = p.0; word = p.1.0; kind = p.1.1.0; turn = p.1.1.1 }) (λ _. refl)

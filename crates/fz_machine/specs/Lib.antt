@@ -1,5 +1,6 @@
 pub mod Asks
 pub mod Items
+pub mod Off
 pub mod Phases
 pub mod Regions
 pub mod Walks

@@ -20,6 +20,8 @@ use Rattle.fz_machine.specs.declared.pass.Step.TheVariants as written
 use Rattle.fz_machine.specs.declared.pass.Next.TheVariants.{Asks, Ended}
 use Rattle.fz_finalizers.specs.Follows.{Event, Follows, Take, TakeFinished, Finish, next_pass}
 use Rattle.fz_machine.specs.Going.{going, to_process}
+use Rattle.fz_machine.specs.Off.{PutOff, TellsOff, none_off}
+use Rattle.fz_machine.specs.Phases.{Scope, scope_by}
 use Rattle.fz_machine.specs.Regions.{items_in, place_in}
 use Rattle.fz_machine.specs.Steps.{Begins, Going, GoesOn, IsQuestion, steps}
 use Rattle.fz_machine.specs.Walks.{Walk, walk_code}
@@ -30,6 +32,7 @@ pub record Machine : Type 0 where
   pub phase : Option Phase  -- the phase of the open pass
   pub asked : ℕ  -- how many items the last question was about
   pub before : ℕ  -- how many entries had been queued when the pass began
+  pub from : ℕ  -- the least number of the registrations and cleanups that the pass looks at
   pub regions : List (ℕ × ℕ)  -- the regions that the last question was about, each with the bits of its noted places
   pub by_regions : Bool  -- whether it was opened with regions: if not, no object is noted
   pub noted : Bool  -- whether each registered object is noted: if so, a pass asks about regions
@@ -141,9 +144,13 @@ phase_code = code_by (ℕ × Moment) (coded× coded_ℕ moment_code) to (λ p. b
 
 abbrev pub machine_code : Coded Machine
 machine_code =
-    code_by (View × (Walk × (Option Phase × (ℕ × (ℕ × (List (ℕ × ℕ) × (Bool × (Bool × (ℕ × ℕ))))))))) (coded× view_code (coded× walk_code (coded× (coded_option phase_code) (coded× coded_ℕ (coded× coded_ℕ (coded× (coded_list (coded× coded_ℕ coded_ℕ)) (coded× coded_bool (coded× coded_bool (coded× coded_ℕ coded_ℕ)))))))))
-    (λ m. (m.finalizers, (m.walk, (m.phase, (m.asked, (m.before, (m.regions, (m.by_regions, (m.noted, (m.tabled, m.remaining))))))))))
-    (λ p. record { finalizers = p.0; walk = p.1.0; phase = p.1.1.0; asked = p.1.1.1.0; before = p.1.1.1.1.0; regions = p.1.1.1.1.1.0; by_regions = p.1.1.1.1.1.1.0; noted = p.1.1.1.1.1.1.1.0; tabled = p.1.1.1.1.1.1.1.1.0; remaining = p.1.1.1.1.1.1.1.1.1 }) (λ _. refl)
+    code_by (View × (Walk × (Option Phase × (ℕ × ((ℕ × ℕ) × (List (ℕ × ℕ) × (Bool × (Bool × (ℕ × ℕ))))))))) (coded× view_code (coded× walk_code (coded× (coded_option phase_code) (coded× coded_ℕ (coded× (coded× coded_ℕ coded_ℕ) (coded× (coded_list (coded× coded_ℕ coded_ℕ)) (coded× coded_bool (coded× coded_bool (coded× coded_ℕ coded_ℕ)))))))))
+    (λ m. (m.finalizers, (m.walk, (m.phase, (m.asked, ((m.before, m.from), (m.regions, (m.by_regions, (m.noted, (m.tabled, m.remaining))))))))))
+    (λ p. record { finalizers = p.0; walk = p.1.0; phase = p.1.1.0; asked = p.1.1.1.0; before = p.1.1.1.1.0.0; from = p.1.1.1.1.0.1; regions = p.1.1.1.1.1.0; by_regions = p.1.1.1.1.1.1.0; noted = p.1.1.1.1.1.1.1.0; tabled = p.1.1.1.1.1.1.1.1.0; remaining = p.1.1.1.1.1.1.1.1.1 }) (λ _. refl)
+
+-- the registrations and cleanups that an open pass looks at: by regions it comes to all registrations
+abbrev pub scope : Machine → Scope
+scope m = scope_by m.noted m.from
 
 -- how many regions an open pass has still to process
 abbrev pub regions_left : Machine → ℕ
@@ -194,19 +201,24 @@ pub record IsWorked (old new : Machine) : Type 0 where
 
 -- nothing is listed yet
 abbrev pub at_begin : State → Going
-at_begin s = record { finalizers = s; kept = []; left = []; aside = []; off = [] }
+at_begin s = record { finalizers = s; kept = []; left = []; aside = []; off = none_off }
 
--- a pass has begun
-pub record IsBegun (old new : Machine) : Type 0 where
+-- a pass has begun over the registrations and cleanups from a number on
+pub record IsBegunFrom (number : ℕ) (old new : Machine) : Type 0 where
   pub phase : new.phase ≡ Some (Keys First)
   pub finalizers : new.finalizers.state ≡ record old.finalizers.state { passes = next_pass old.finalizers.passes }
-  pub begins : Begins (Keys First) (at_begin new.finalizers.state) (going new.finalizers new.walk)
+  pub begins : Begins (scope new) (Keys First) (at_begin new.finalizers.state) (going new.finalizers new.walk)
   pub asked : new.asked ≡ 0
   pub regions : new.regions ≡ []
   pub before : new.before ≡ length old.finalizers.queue
+  pub from : new.from ≡ number
   pub by_regions : new.by_regions ≡ old.by_regions
   pub noted : new.noted ≡ old.noted
   pub tabled : new.tabled ≡ old.tabled
+
+-- a pass has begun over all
+abbrev pub IsBegun : Machine → Machine → Type 0
+IsBegun = IsBegunFrom 0
 
 -- a question about items: registered objects are asked about only if they aren't all noted
 pub record AsksItems (m : Machine) (phase : Phase) (q : Question) : Type 0 where
@@ -247,9 +259,10 @@ Writes (written.Ended passed) old new = new ≡ old
 pub record GoesTo (old : Machine) (answers : List Bool) (new : Machine) (next : Next) : Type 0 where
   pub phase : Phase
   pub was : old.phase ≡ Some phase
-  pub goes : GoesOn phase (steps phase answers (going old.finalizers old.walk)) new.phase (going new.finalizers new.walk)
+  pub goes : GoesOn (scope old) phase (steps phase answers (going old.finalizers old.walk)) new.phase (going new.finalizers new.walk)
   pub tells : Tells new next
   pub before : new.before ≡ old.before
+  pub from : new.from ≡ old.from
   pub by_regions : new.by_regions ≡ old.by_regions
   pub noted : new.noted ≡ old.noted
   pub tabled : new.tabled ≤ old.tabled
@@ -263,3 +276,13 @@ pub record IsAbandoned (old new : Machine) : Type 0 where
   pub by_regions : new.by_regions ≡ old.by_regions
   pub noted : new.noted ≡ old.noted
   pub tabled : new.tabled ≡ old.tabled
+
+-- while values are marked, those that are put off are told by their keys; in other phases nothing is told
+abbrev pub TellsIn : Option Phase → ℕ → PutOff → PutOff → Type 0
+TellsIn (Some (Values moment)) key old new = TellsOff key old new
+TellsIn phase key old new = new ≡ old
+
+-- a host has told that a key is marked: nothing changes but what is put off
+pub record IsTold (key : ℕ) (old new : Machine) : Type 0 where
+  pub off : TellsIn old.phase key old.walk.off new.walk.off
+  pub same : new ≡ record old { walk = record old.walk { off = new.walk.off; off_room = new.walk.off_room } }

@@ -1,6 +1,6 @@
 -- The phases of a pass: each processes a list, with one question for each item.
 -- code: fz_machine/src/phase.rt, listing.rt
-use Rattle.std.specs.Prelude.{◌≡◌, ℕ, Bool, true, false, not, if◌then◌else◌, List, [], ◌∷◌, Option, Some, None}
+use Rattle.std.specs.Prelude.{◌≡◌, ℕ, Bool, true, false, not, if◌then◌else◌, List, [], Option, Some, None}
 use Rattle.std.specs.FinMap.{remove}
 use Rattle.fz_model.specs.declared.kinds.LinkKind.TheVariants.{Short, Long}
 use Rattle.fz_finalizers.specs.declared.kinds.Kind.{Kind}
@@ -17,6 +17,7 @@ use Rattle.fz_machine.specs.declared.phase.Phase.TheVariants.{Keys, KeysAgain, H
 use Rattle.fz_machine.specs.declared.question.Ask.{Ask}
 use Rattle.fz_machine.specs.declared.question.Ask.TheVariants.{IsMarked, MarkChildren, MarkOthers, Mark, MarkAlone, Clear, IsHolderMarked, MarkValue}
 use Rattle.fz_machine.specs.Items.{AreCleanups, AreEphemerons, AreLinks, AreObjects, AreInTurn}
+use Rattle.fz_machine.specs.Off.{PutOff, none_off, looked_at, looking}
 
 -- the phase in which the pass goes on once the marks are whole
 abbrev pub behind : Moment → Phase
@@ -25,33 +26,33 @@ behind Led = Again
 behind Picked = LateAgain
 behind Last = LongTargets
 
--- the next phase, given the items that this one has kept: while values are marked, the ephemerons that were put off are looked at again
-abbrev pub next_phase : Phase → List Item → Option Phase
-next_phase (Keys moment) kept = Some (Holders moment)
-next_phase (KeysAgain moment) kept = Some (Holders moment)
-next_phase (Holders moment) kept = Some (Values moment)
-next_phase (Values moment) [] = Some (behind moment)
-next_phase (Values moment) (item ∷ kept) = Some (KeysAgain moment)
-next_phase ShortCleanups kept = Some ShortTargets
-next_phase ShortTargets kept = Some ShortWords
-next_phase ShortWords kept = Some ShortKeys
-next_phase ShortKeys kept = Some ShortKeyWords
-next_phase ShortKeyWords kept = Some Objects
-next_phase Objects kept = Some Children
-next_phase Children kept = Some (Keys Led)
-next_phase Again kept = Some Picks
-next_phase Picks kept = Some (Keys Picked)
-next_phase LateAgain kept = Some LatePicks
-next_phase LatePicks kept = Some (Keys Last)
-next_phase LongTargets kept = Some LongWords
-next_phase LongWords kept = Some LongKeys
-next_phase LongKeys kept = Some LongKeyWords
-next_phase LongKeyWords kept = Some ShortHolders
-next_phase ShortHolders kept = Some LongHolders
-next_phase LongHolders kept = Some ShortKeyHolders
-next_phase ShortKeyHolders kept = Some LongKeyHolders
-next_phase LongKeyHolders kept = Some LongCleanups
-next_phase LongCleanups kept = None
+-- the next phase: if there is another round, the ephemerons that were put off are looked at again
+abbrev pub next_phase : Phase → Bool → Option Phase
+next_phase (Keys moment) again = Some (Holders moment)
+next_phase (KeysAgain moment) again = Some (Holders moment)
+next_phase (Holders moment) again = Some (Values moment)
+next_phase (Values moment) false = Some (behind moment)
+next_phase (Values moment) true = Some (KeysAgain moment)
+next_phase ShortCleanups again = Some ShortTargets
+next_phase ShortTargets again = Some ShortWords
+next_phase ShortWords again = Some ShortKeys
+next_phase ShortKeys again = Some ShortKeyWords
+next_phase ShortKeyWords again = Some Objects
+next_phase Objects again = Some Children
+next_phase Children again = Some (Keys Led)
+next_phase Again again = Some Picks
+next_phase Picks again = Some (Keys Picked)
+next_phase LateAgain again = Some LatePicks
+next_phase LatePicks again = Some (Keys Last)
+next_phase LongTargets again = Some LongWords
+next_phase LongWords again = Some LongKeys
+next_phase LongKeys again = Some LongKeyWords
+next_phase LongKeyWords again = Some ShortHolders
+next_phase ShortHolders again = Some LongHolders
+next_phase LongHolders again = Some ShortKeyHolders
+next_phase ShortKeyHolders again = Some LongKeyHolders
+next_phase LongKeyHolders again = Some LongCleanups
+next_phase LongCleanups again = None
 
 -- the phases that make the marks whole; their lists are of ephemerons, while another list is set aside
 abbrev pub settles : Phase → Bool
@@ -137,13 +138,12 @@ subject ShortKeyHolders item = item.word
 subject LongKeyHolders item = item.word
 subject LongCleanups item = item.object
 
--- whether the next phase processes the item, too, given the answer: it does if the object isn't marked; an ephemeron if its key or holder is. A value whose
--- marking may have marked something is kept as a sign of that
+-- whether the next phase processes the item, too, given the answer: it does if the object isn't marked; an ephemeron if its key or holder is
 abbrev pub keeps : Phase → Item → Bool → Bool
 keeps (Keys moment) item answer = answer
 keeps (KeysAgain moment) item answer = answer
 keeps (Holders moment) item answer = answer
-keeps (Values moment) item answer = answer
+keeps (Values moment) item answer = false
 keeps ShortCleanups item answer = false
 keeps ShortTargets item answer = not answer
 keeps ShortWords item answer = false
@@ -164,13 +164,6 @@ keeps LongHolders item answer = false
 keeps ShortKeyHolders item answer = false
 keeps LongKeyHolders item answer = false
 keeps LongCleanups item answer = false
-
--- whether the ephemeron is put off: its key or its holder isn't marked
-abbrev pub puts_off : Phase → Bool → Bool
-puts_off (Keys moment) answer = not answer
-puts_off (KeysAgain moment) answer = not answer
-puts_off (Holders moment) answer = not answer
-puts_off phase answer = false
 
 abbrev without_short : State → ℕ → State
 without_short s word = record s { short = remove s.short word }
@@ -209,9 +202,9 @@ after ShortKeyHolders item answer s = if answer then s else without_key s item.w
 after LongKeyHolders item answer s = if answer then s else without_key s item.word
 after LongCleanups item answer s = if answer then s else queued_cleanup s item.word
 
--- the list that a phase gets: what the previous phase kept, what was put off, or what was set aside
-abbrev pub given : Phase → List Item → List Item → List Item → List Item
-given (KeysAgain moment) kept aside off = off
+-- the list that a phase gets: what the previous phase kept, what is looked at again, or what was set aside
+abbrev pub given : Phase → List Item → List Item → PutOff → List Item
+given (KeysAgain moment) kept aside off = looked_at off
 given Again kept aside off = aside
 given LateAgain kept aside off = aside
 given phase kept aside off = kept
@@ -225,38 +218,47 @@ aside_in LateAgain kept aside = []
 aside_in LongTargets kept aside = []
 aside_in phase kept aside = aside
 
-abbrev pub off_in : Phase → List Item → List Item
-off_in (Keys moment) off = []
-off_in (KeysAgain moment) off = []
-off_in ShortCleanups off = []
-off_in Again off = []
-off_in LateAgain off = []
-off_in LongTargets off = []
+abbrev pub off_in : Phase → PutOff → PutOff
+off_in (Keys moment) off = none_off
+off_in (KeysAgain moment) off = looking off
+off_in ShortCleanups off = none_off
+off_in Again off = none_off
+off_in LateAgain off = none_off
+off_in LongTargets off = none_off
 off_in phase off = off
 
+-- the least numbers of the registrations and of the cleanups that a pass looks at
+pub record Scope : Type 0 where
+  pub registrations : ℕ
+  pub cleanups : ℕ
+
+-- those from a number on; if they are noted in regions, a pass comes to all registrations
+abbrev pub scope_by : Bool → ℕ → Scope
+scope_by noted from = record { registrations = if noted then 0 else from; cleanups = from }
+
 -- the list that a phase processes, given the list that it gets
-abbrev pub Lists : Phase → State → List Item → List Item → Type 0
-Lists (Keys moment) s given items = AreEphemerons s.ephemerons items
-Lists (KeysAgain moment) s given items = items ≡ given
-Lists (Holders moment) s given items = items ≡ given
-Lists (Values moment) s given items = items ≡ given
-Lists ShortCleanups s given items = AreCleanups Short s.cleanups items
-Lists ShortTargets s given items = AreLinks s.short items
-Lists ShortWords s given items = items ≡ given
-Lists ShortKeys s given items = AreLinks s.ephemerons.short items
-Lists ShortKeyWords s given items = items ≡ given
-Lists Objects s given items = AreObjects s.registrations s.late items
-Lists Children s given items = items ≡ given
-Lists Again s given items = items ≡ given
-Lists Picks s given items = AreInTurn given items
-Lists LateAgain s given items = items ≡ given
-Lists LatePicks s given items = items ≡ given
-Lists LongTargets s given items = AreLinks s.long items
-Lists LongWords s given items = items ≡ given
-Lists LongKeys s given items = AreLinks s.ephemerons.long items
-Lists LongKeyWords s given items = items ≡ given
-Lists ShortHolders s given items = AreLinks s.short items
-Lists LongHolders s given items = AreLinks s.long items
-Lists ShortKeyHolders s given items = AreLinks s.ephemerons.short items
-Lists LongKeyHolders s given items = AreLinks s.ephemerons.long items
-Lists LongCleanups s given items = AreCleanups Long s.cleanups items
+abbrev pub Lists : Phase → Scope → State → List Item → List Item → Type 0
+Lists (Keys moment) scope s given items = AreEphemerons s.ephemerons items
+Lists (KeysAgain moment) scope s given items = items ≡ given
+Lists (Holders moment) scope s given items = items ≡ given
+Lists (Values moment) scope s given items = items ≡ given
+Lists ShortCleanups scope s given items = AreCleanups scope.cleanups Short s.cleanups items
+Lists ShortTargets scope s given items = AreLinks s.short items
+Lists ShortWords scope s given items = items ≡ given
+Lists ShortKeys scope s given items = AreLinks s.ephemerons.short items
+Lists ShortKeyWords scope s given items = items ≡ given
+Lists Objects scope s given items = AreObjects scope.registrations s.registrations s.late items
+Lists Children scope s given items = items ≡ given
+Lists Again scope s given items = items ≡ given
+Lists Picks scope s given items = AreInTurn given items
+Lists LateAgain scope s given items = items ≡ given
+Lists LatePicks scope s given items = items ≡ given
+Lists LongTargets scope s given items = AreLinks s.long items
+Lists LongWords scope s given items = items ≡ given
+Lists LongKeys scope s given items = AreLinks s.ephemerons.long items
+Lists LongKeyWords scope s given items = items ≡ given
+Lists ShortHolders scope s given items = AreLinks s.short items
+Lists LongHolders scope s given items = AreLinks s.long items
+Lists ShortKeyHolders scope s given items = AreLinks s.ephemerons.short items
+Lists LongKeyHolders scope s given items = AreLinks s.ephemerons.long items
+Lists LongCleanups scope s given items = AreCleanups scope.cleanups Long s.cleanups items

@@ -12,9 +12,9 @@ use Rattle.fz_machine.specs.declared.pass.Next.{Next}
 use Rattle.fz_machine.specs.declared.phase.Phase.{Phase}
 use Rattle.fz_machine.specs.declared.phase.Phase.TheVariants.{Objects}
 use Rattle.fz_machine.specs.declared.question.Question.{Question}
-use Rattle.fz_machine.specs.Graph.{AreHonestWords, Graph, IsHonest, MayBegin, MayBeAsked}
+use Rattle.fz_machine.specs.Graph.{AreHonestWords, AreOldMarked, Graph, IsHonest, MayBegin, MayBeAsked}
 use Rattle.fz_machine.specs.Regions.{marks_say}
-use Rattle.fz_machine.specs.Machines.{Machine, AsksRegions, IsBegun, GoesTo, IsWorked, Works}
+use Rattle.fz_machine.specs.Machines.{Machine, AsksRegions, IsBegun, IsBegunFrom, GoesTo, IsTold, IsWorked, Works}
 use Rattle.fz_machine.specs.Phases.{asks, subject}
 
 -- true answers about the first items, one after another, while the graph changes
@@ -24,12 +24,14 @@ AreHonest Exact place value phase (answer ∷ answers) [] old new = ⊥
 AreHonest Exact place value phase (answer ∷ answers) (item ∷ items) old new =
     (between : Graph) × IsHonest Exact place value (asks phase item) (subject phase item) old answer between × AreHonest Exact place value phase answers items between new
 
--- from the begin of a pass, by questions that an honest host has answered; meanwhile workers take and finish entries
+-- from the begin of a pass, by questions that an honest host has answered; meanwhile workers take and finish entries, and the host tells keys, whether they are
+-- marked or not
 pub data Runs (Exact : Type 0) (place : ℕ → Option ℕ) (value : Map Object → ℕ → Option ℕ) (begun : Machine) (before : Graph) : Machine → Graph → Type 0 where
   Begun : Runs Exact place value begun before begun before
   Goes : {m new : Machine} {g after : Graph} {next : Next} (answers : List Bool) (goes : GoesTo m answers new next)
       → Runs Exact place value begun before m g → AreHonest Exact place value goes.phase answers m.walk.left g after → Runs Exact place value begun before new after
   Meanwhile : {m new : Machine} {g : Graph} → IsWorked m new → Runs Exact place value begun before m g → Runs Exact place value begun before new g
+  Told : {m new : Machine} {g : Graph} (key : ℕ) → IsTold key m new → Runs Exact place value begun before m g → Runs Exact place value begun before new g
 
 -- as for `Finalizers::pass_with_ephemerons`: what the model queues and decides, and that marks stay and are closed; what is taken and finished meanwhile might as well be taken
 -- and finished after the pass
@@ -46,6 +48,12 @@ RunsPass Exact = (place : ℕ → Option ℕ) (value : Map Object → ℕ → Op
     → IsReached old.finalizers.state past → IsBegun old begun → MayBegin place old.finalizers.state before → Runs Exact place value begun before new after → new.phase ≡ None
     → MakesPass Exact place value old.finalizers.state before new.finalizers.state after
 
+-- a pass that looks only at registrations and cleanups from a number on carries out the same, if the objects of the earlier ones are marked
+abbrev pub RunsYoungPass : Type 0 → Type 0
+RunsYoungPass Exact = (from : ℕ) (place : ℕ → Option ℕ) (value : Map Object → ℕ → Option ℕ) (old begun new : Machine) (past : Past) (before after : Graph)
+    → IsReached old.finalizers.state past → IsBegunFrom from old begun → MayBegin place old.finalizers.state before → AreOldMarked from old.finalizers.state before → Runs Exact place value begun before new after → new.phase ≡ None
+    → MakesPass Exact place value old.finalizers.state before new.finalizers.state after
+
 -- as for `Finalizers::pass`
 pub record MakesPlainPass (Exact : Type 0) (place : ℕ → Option ℕ) (old : State) (before : Graph) (new : State) (after : Graph) : Type 0 where
   pub passed : State
@@ -58,6 +66,12 @@ pub record MakesPlainPass (Exact : Type 0) (place : ℕ → Option ℕ) (old : S
 abbrev pub RunsPlainPass : Type 0 → Type 0
 RunsPlainPass Exact = (place : ℕ → Option ℕ) (value : Map Object → ℕ → Option ℕ) (old begun new : Machine) (past : Past) (before after : Graph)
     → IsReached old.finalizers.state past → old.finalizers.state.ephemerons ≡ no_ephemerons → IsBegun old begun → MayBegin place old.finalizers.state before → Runs Exact place value begun before new after → new.phase ≡ None
+    → MakesPlainPass Exact place old.finalizers.state before new.finalizers.state after
+
+-- so does one without ephemerons
+abbrev pub RunsYoungPlainPass : Type 0 → Type 0
+RunsYoungPlainPass Exact = (from : ℕ) (place : ℕ → Option ℕ) (value : Map Object → ℕ → Option ℕ) (old begun new : Machine) (past : Past) (before after : Graph)
+    → IsReached old.finalizers.state past → old.finalizers.state.ephemerons ≡ no_ephemerons → IsBegunFrom from old begun → MayBegin place old.finalizers.state before → AreOldMarked from old.finalizers.state before → Runs Exact place value begun before new after → new.phase ≡ None
     → MakesPlainPass Exact place old.finalizers.state before new.finalizers.state after
 
 -- the first item may be asked about, and each later one after true answers about those before it
@@ -73,8 +87,20 @@ AsksRightly Exact = (place : ℕ → Option ℕ) (value : Map Object → ℕ →
     → IsReached old.finalizers.state past → IsBegun old begun → MayBegin place old.finalizers.state before → Runs Exact place value begun before new after → new.phase ≡ Some phase
     → AreAskable Exact place value phase new.walk.left after
 
+-- and one that looks only at registrations and cleanups from a number on
+abbrev pub AsksYoungRightly : Type 0 → Type 0
+AsksYoungRightly Exact = (from : ℕ) (place : ℕ → Option ℕ) (value : Map Object → ℕ → Option ℕ) (old begun new : Machine) (past : Past) (before after : Graph) (phase : Phase)
+    → IsReached old.finalizers.state past → IsBegunFrom from old begun → MayBegin place old.finalizers.state before → AreOldMarked from old.finalizers.state before → Runs Exact place value begun before new after → new.phase ≡ Some phase
+    → AreAskable Exact place value phase new.walk.left after
+
 -- words that are true of a graph about the regions of a question are true answers about the items in them
 abbrev pub WordsAreAnswers : Type 0 → Type 0
 WordsAreAnswers Exact = (place : ℕ → Option ℕ) (value : Map Object → ℕ → Option ℕ) (old begun m : Machine) (past : Past) (before g : Graph) (question : Question) (words : List ℕ)
     → IsReached old.finalizers.state past → IsBegun old begun → MayBegin place old.finalizers.state before → Runs Exact place value begun before m g → m.phase ≡ Some Objects → AsksRegions m Objects question → AreHonestWords g m.regions words
+    → AreHonest Exact place value Objects (marks_say m.finalizers.state m.regions words) m.walk.left g g
+
+-- and in a pass that looks only at registrations and cleanups from a number on
+abbrev pub YoungWordsAreAnswers : Type 0 → Type 0
+YoungWordsAreAnswers Exact = (from : ℕ) (place : ℕ → Option ℕ) (value : Map Object → ℕ → Option ℕ) (old begun m : Machine) (past : Past) (before g : Graph) (question : Question) (words : List ℕ)
+    → IsReached old.finalizers.state past → IsBegunFrom from old begun → MayBegin place old.finalizers.state before → AreOldMarked from old.finalizers.state before → Runs Exact place value begun before m g → m.phase ≡ Some Objects → AsksRegions m Objects question → AreHonestWords g m.regions words
     → AreHonest Exact place value Objects (marks_say m.finalizers.state m.regions words) m.walk.left g g

@@ -6,7 +6,8 @@ use Rattle.fz_machine.specs.declared.item.Item.{Item}
 use Rattle.fz_machine.specs.declared.phase.Phase.{Phase}
 use Rattle.fz_machine.specs.declared.question.Question.{Question}
 use Rattle.fz_machine.specs.declared.question.TheConstants.{BATCH}
-use Rattle.fz_machine.specs.Phases.{next_phase, asks, subject, keeps, puts_off, after, given, aside_in, off_in, Lists}
+use Rattle.fz_machine.specs.Phases.{Scope, next_phase, asks, subject, keeps, after, given, aside_in, off_in, Lists}
+use Rattle.fz_machine.specs.Off.{PutOff, looks_again, put_off}
 
 -- a phase in progress: the finalizers, the items kept for the next phase, the remaining ones, those set aside, and those put off
 pub record Going : Type 0 where
@@ -14,7 +15,7 @@ pub record Going : Type 0 where
   pub kept : List Item
   pub left : List Item
   pub aside : List Item
-  pub off : List Item
+  pub off : PutOff
 
 -- the effect of the answer about the first remaining item
 abbrev pub stepped : Phase → Bool → Going → List Item → Going
@@ -24,7 +25,7 @@ stepped phase answer g (item ∷ left) = record {
   kept = if keeps phase item answer then g.kept ++ item ∷ [] else g.kept;
   left = left;
   aside = g.aside;
-  off = if puts_off phase answer then g.off ++ item ∷ [] else g.off;
+  off = put_off phase item answer g.off;
 }
 
 abbrev pub step : Phase → Bool → Going → Going
@@ -44,18 +45,18 @@ abbrev pub skip : Phase → Going → Going
 skip phase g = skipped phase g.left g
 
 -- the next phase begins
-pub record Begins (phase : Phase) (old new : Going) : Type 0 where
+pub record Begins (scope : Scope) (phase : Phase) (old new : Going) : Type 0 where
   pub same : new.finalizers ≡ old.finalizers
   pub none : new.kept ≡ []
-  pub lists : Lists phase old.finalizers (given phase old.kept old.aside old.off) new.left
+  pub lists : Lists phase scope old.finalizers (given phase old.kept old.aside old.off) new.left
   pub aside : new.aside ≡ aside_in phase old.kept old.aside
   pub off : new.off ≡ off_in phase old.off
 
 -- proceeding to the first phase with something to ask, or to the end
-pub data GoesOn : Phase → Going → Option Phase → Going → Type 0 where
-  Asks : {phase : Phase} {g : Going} (item : Item) (left : List Item) → (skip phase g).left ≡ item ∷ left → GoesOn phase g (Some phase) (skip phase g)
-  Turns : {phase next : Phase} {g h k : Going} {last : Option Phase} → (skip phase g).left ≡ [] → next_phase phase (skip phase g).kept ≡ Some next → Begins next (skip phase g) h → GoesOn next h last k → GoesOn phase g last k
-  Ends : {phase : Phase} {g : Going} → (skip phase g).left ≡ [] → next_phase phase (skip phase g).kept ≡ None → GoesOn phase g None (skip phase g)
+pub data GoesOn (scope : Scope) : Phase → Going → Option Phase → Going → Type 0 where
+  Asks : {phase : Phase} {g : Going} (item : Item) (left : List Item) → (skip phase g).left ≡ item ∷ left → GoesOn scope phase g (Some phase) (skip phase g)
+  Turns : {phase next : Phase} {g h k : Going} {last : Option Phase} → (skip phase g).left ≡ [] → next_phase phase (looks_again (skip phase g).off) ≡ Some next → Begins scope next (skip phase g) h → GoesOn scope next h last k → GoesOn scope phase g last k
+  Ends : {phase : Phase} {g : Going} → (skip phase g).left ≡ [] → next_phase phase (looks_again (skip phase g).off) ≡ None → GoesOn scope phase g None (skip phase g)
 
 -- a question about the first remaining items: as many as fit, about which the same is asked
 pub record IsQuestion (phase : Phase) (left : List Item) (q : Question) : Type 0 where

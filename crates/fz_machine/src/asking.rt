@@ -1,6 +1,7 @@
 //! The steps of a pass.
 
-ghost use Rattle.std.specs.Prelude.{◌≡◌, ◌≤◌, ◌<◌, ◌∷◌, [], drop, is_some};
+ghost use Rattle.std.specs.Prelude.{◌≡◌, ◌≤◌, ◌<◌, ◌∷◌, [], drop, length, is_some, IsTrue};
+ghost use Rattle.fz_machine.specs.Off.{put_off};
 ghost use Rattle.fz_machine.specs.Phases.{after, asks, settles};
 ghost use Rattle.fz_machine.specs.Steps.{step, steps, skip};
 ghost use Rattle.fz_machine.specs.Going.{going, HasRoomOff, IsSameRoom};
@@ -47,6 +48,19 @@ fn act(finalizers: &mut Finalizers, phase: Phase, item: Item, yes: bool)
     }
 }
 
+/// Puts an ephemeron off, or notes that its value may have been marked, as the answer implies.
+fn put_off(walk: &mut Walk, phase: Phase, item: Item, yes: bool)
+    requires room { IsTrue (settles phase) → length walk.old.off.stuck < walk.old.off_room }
+    ensures off { walk.new ≡ record walk.old { off = put_off phase item yes walk.old.off; off_room = walk.new.off_room } }
+    ensures room { walk.old.off_room ≤ walk.new.off_room }
+{
+    match phase {
+        Phase::Keys(_) | Phase::KeysAgain(_) | Phase::Holders(_) if !yes => walk.put_off(item),
+        Phase::Values(_) if yes => walk.value_marked(),
+        _ => {}
+    }
+}
+
 /// Processes the answer about the first remaining item.
 fn step(finalizers: &mut Finalizers, walk: &mut Walk, phase: Phase, item: Item, yes: bool)
     requires first { walk.old.left ≡ item ∷ drop 1 walk.old.left }
@@ -57,9 +71,7 @@ fn step(finalizers: &mut Finalizers, walk: &mut Walk, phase: Phase, item: Item, 
 {
     act(finalizers, phase, item, yes);
     walk.pass_on(item, phase.keeps(&item, yes));
-    if phase.puts_off(yes) {
-        walk.put_off(item);
-    }
+    put_off(walk, phase, item, yes);
 }
 
 /// Processes answers about the first remaining items, one after another.

@@ -3,7 +3,7 @@
 ghost use Rattle.std.specs.Prelude.{◌≡◌, ◌≤◌, ◌<◌, ◌∷◌, [], map, take, length, slice_get, is_some, All, Some, IsTrue, IsFalse};
 ghost use Rattle.fz_machine.specs.declared.item.Item.{Item};
 ghost use Rattle.fz_machine.specs.declared.question.TheConstants.{BATCH};
-ghost use Rattle.fz_machine.specs.Phases.{asks, subject};
+ghost use Rattle.fz_machine.specs.Phases.{asks, scope_by, subject};
 ghost use Rattle.fz_machine.specs.Going.{begins_with, follows_settling, going_by, to_process_by, walk_by, AreFewer, HasFirst, HaveRoom, HasRoomOff, IsInOrder};
 ghost use Rattle.fz_machine.specs.Regions.{AreNoted};
 ghost use Rattle.fz_machine.specs.Steps.{Begins, GoesOn, IsQuestion, skip};
@@ -44,13 +44,19 @@ fn skip_by(
 }
 
 /// Lists what a phase processes: registrations by regions, if these are complete.
-fn begin_by(finalizers: &Finalizers, walk: &mut Walk, regions: &mut Regions, phase: Phase)
+fn begin_by(
+    finalizers: &Finalizers,
+    walk: &mut Walk,
+    regions: &mut Regions,
+    from: u64,
+    phase: Phase,
+)
     requires none { regions.old.left ≡ [] }
     requires left { walk.old.left ≡ [] }
     requires room { HaveRoom (follows_settling phase) finalizers.now.state walk.old }
     requires off { HasRoomOff (follows_settling phase) walk.old }
     requires noted { IsTrue regions.old.complete → AreNoted finalizers.now.state regions.old.order }
-    ensures begins { Begins phase (going_by finalizers.now walk.old regions.old) (going_by finalizers.now walk.new regions.new) }
+    ensures begins { Begins (scope_by regions.old.complete from) phase (going_by finalizers.now walk.old regions.old) (going_by finalizers.now walk.new regions.new) }
     ensures order { IsInOrder finalizers.now.state walk.new regions.new (Some phase) 0 }
     ensures tabled { regions.new.order ≡ regions.old.order }
     ensures left { length regions.new.left ≤ begins_with phase (length regions.old.order) }
@@ -61,7 +67,7 @@ fn begin_by(finalizers: &Finalizers, walk: &mut Walk, regions: &mut Regions, pha
         regions.begin();
         return;
     }
-    begin(finalizers, walk, phase);
+    begin(finalizers, walk, from, phase);
 }
 
 /// Proceeds to the first phase with something to ask, and returns it, or to the end of the pass.
@@ -69,10 +75,11 @@ pub(crate) fn go_on(
     finalizers: &mut Finalizers,
     walk: &mut Walk,
     regions: &mut Regions,
+    from: u64,
     phase: Phase,
 ) -> Option<Phase>
     requires order { IsInOrder finalizers.old.state walk.old regions.old (Some phase) 0 }
-    ensures goes { GoesOn phase (going_by finalizers.old walk.old regions.old) result (going_by finalizers.new walk.new regions.new) }
+    ensures goes { GoesOn (scope_by regions.old.complete from) phase (going_by finalizers.old walk.old regions.old) result (going_by finalizers.new walk.new regions.new) }
     ensures order { IsInOrder finalizers.new.state walk.new regions.new result 0 }
     ensures tabled { length regions.new.order ≤ length regions.old.order }
     ensures fewer { to_process_by result regions.new ≤ to_process_by (Some phase) regions.old }
@@ -84,11 +91,11 @@ pub(crate) fn go_on(
         if skip_by(finalizers, walk, regions, phase) {
             return Some(phase);
         }
-        let Some(next) = phase.next(walk.kept()) else {
+        let Some(next) = phase.next(walk.looks_again()) else {
             return None;
         };
         phase = next;
-        begin_by(finalizers, walk, regions, phase);
+        begin_by(finalizers, walk, regions, from, phase);
     }
 }
 

@@ -1,10 +1,10 @@
 //! The result of a run of questions and answers.
 
 ghost use Rattle.fz_machine.specs.Heard.{PassesAreCalls, PassesEnd, RegionQuestionsEnd};
-ghost use Rattle.fz_machine.specs.Runs.{AsksRightly, RunsPass, RunsPlainPass, WordsAreAnswers};
+ghost use Rattle.fz_machine.specs.Runs.{AsksRightly, AsksYoungRightly, RunsPass, RunsPlainPass, RunsYoungPass, RunsYoungPlainPass, WordsAreAnswers, YoungWordsAreAnswers};
 
 /// A run whose answers are true of a graph carries out the model's pass, as `Finalizers::pass_with_ephemerons` does. Entries that are taken and finished between its questions
-/// might as well be taken and finished after the pass.
+/// might as well be taken and finished after the pass. What the host tells by `Machine::key_marked` need not be true.
 ///
 /// If the host marks exactly what it is asked to mark, the run queues and retains exactly what the model does. If it marks more, the run queues no more than
 /// the model, and retains no less.
@@ -19,21 +19,22 @@ pub fn runs_make_the_plain_pass()
     ensures plain_of_more { RunsPlainPass ⊥ }
 {}
 
-/// Whatever the host answers, and whatever is taken and finished meanwhile, a pass processes at most six answers for each registration, three for each link and
-/// one for each cleanup; and for `n` ephemerons `3 * n + 6 * n * (n + 1)`, since each of four times the marks are made whole in rounds of three answers for each
-/// ephemeron that still waits, of which each round but the last leaves fewer. This bounds answers, not calls: a call of `next` without answers repeats the question, so a host that never answers never reaches the
+/// Whatever the host answers and tells, and whatever is taken and finished meanwhile, a pass processes at most six answers for each registration, three for each link and
+/// one for each cleanup; and for `n` ephemerons `3 * n + 4 * n * (2 * n + 1)`. Each of four times the marks are made whole in rounds of at most three answers for each ephemeron
+/// that still waits. A value is asked about once. At most two further rounds follow each round in which a value is asked about: one over the ephemerons whose keys were told,
+/// and one over all that still wait. This bounds answers, not calls: a call of `next` without answers repeats the question, so a host that never answers never reaches the
 /// end. Each question is about at least one item, so a host that answers at least one item of each question reaches the end after at most that many questions.
 pub fn passes_end()
     ensures { PassesEnd }
 {}
 
-/// Whatever the host answers, and whatever is taken and finished meanwhile, a pass of a machine with regions processes words for at most one question for each
+/// Whatever the host answers and tells, and whatever is taken and finished meanwhile, a pass of a machine with regions processes words for at most one question for each
 /// 64 regions that are there when it begins, and one for those left over. A call without their words repeats the question, as above.
 pub fn region_questions_end()
     ensures { RegionQuestionsEnd }
 {}
 
-/// Whatever the host answers, a pass consists of calls of the finalizers that take and finish nothing, even if it is abandoned. So what `every_sequence` of
+/// Whatever the host answers and tells, a pass consists of calls of the finalizers that take and finish nothing, even if it is abandoned. So what `every_sequence` of
 /// `fz_finalizers` states holds after each question.
 pub fn passes_are_calls()
     ensures { PassesAreCalls }
@@ -51,4 +52,17 @@ pub fn questions_may_be_asked()
 pub fn words_are_answers()
     ensures exact { WordsAreAnswers (Unit {0}) }
     ensures more { WordsAreAnswers ⊥ }
+{}
+
+/// A pass that looks only at registrations and cleanups from a number on, as `Machine::begin_from` opens it, is a pass over all of them if the objects of the earlier ones are
+/// marked: all that the other functions here state of runs that answer for a graph holds of it, too.
+pub fn young_passes_are_passes()
+    ensures young { RunsYoungPass (Unit {0}) }
+    ensures young_of_more { RunsYoungPass ⊥ }
+    ensures plain_young { RunsYoungPlainPass (Unit {0}) }
+    ensures plain_young_of_more { RunsYoungPlainPass ⊥ }
+    ensures asked_young { AsksYoungRightly (Unit {0}) }
+    ensures asked_young_of_more { AsksYoungRightly ⊥ }
+    ensures words_young { YoungWordsAreAnswers (Unit {0}) }
+    ensures words_young_of_more { YoungWordsAreAnswers ⊥ }
 {}

@@ -18,6 +18,8 @@ mod refused;
 mod regions;
 mod reserving;
 mod responding;
+mod rows;
+mod telling;
 mod walk;
 
 pub use item::Item;

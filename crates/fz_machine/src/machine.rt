@@ -12,7 +12,7 @@ use std::marker::Model;
 
 /// Finalizers whose pass asks one question after another, for a host that can't be called back.
 ///
-/// A pass is open from `begin` until `next` returns that it has ended. Meanwhile entries can be taken and finished; every other change is refused.
+/// A pass is open from `begin` until `next` returns that it has ended. Meanwhile entries can be taken and finished, and keys told; every other change is refused.
 pub struct Machine {
     pub(crate) finalizers: Finalizers,
     pub(crate) walk: Walk,
@@ -24,6 +24,8 @@ pub struct Machine {
     pub(crate) asked: usize,
     /// How many entries had been queued when the pass began.
     pub(crate) before: u64,
+    /// The least number of the registrations and cleanups that a pass looks at.
+    pub(crate) from: u64,
 }
 
 // Written by hand, so that the owner drops it by one proved call, not field by field at each exit of a function.
@@ -37,6 +39,7 @@ impl Drop for Machine {
             phase: _,
             asked: _,
             before: _,
+            from: _,
         } = self;
     }
 }
@@ -56,6 +59,7 @@ impl Model for Machine {
       phase = m.phase;
       asked = m.asked;
       before = m.before;
+      from = m.from;
       regions = take m.regions.asked m.regions.left;
       by_regions = m.by_regions;
       noted = m.regions.complete;
@@ -109,6 +113,7 @@ impl Machine {
             phase: None,
             asked: 0,
             before: 0,
+            from: 0,
         })
     }
 

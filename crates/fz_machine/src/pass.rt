@@ -4,7 +4,7 @@ ghost use Rattle.std.specs.Prelude.{◌≡◌, ◌+◌, [], take, None, Some, On
 ghost use Rattle.fz_finalizers.specs.Follows.{next_pass};
 ghost use Rattle.fz_machine.specs.Asks.{bits_of};
 ghost use Rattle.fz_machine.specs.Causes.{IsJudgedBy};
-ghost use Rattle.fz_machine.specs.Machines.{IsBegun, GoesTo, Writes, next_of};
+ghost use Rattle.fz_machine.specs.Machines.{IsBegun, IsBegunFrom, GoesTo, Writes, next_of};
 ghost use Rattle.fz_machine.specs.declared.refused.Refused.TheVariants.{NoPass};
 
 use crate::answers::answers_in;
@@ -45,6 +45,21 @@ impl Machine {
         ensures number { IfOk result (λ number. number ≡ next_pass self.old.finalizers.passes) }
         ensures begun { OnOk result (IsBegun self.old self.new) }
     {
+        self.begin_from(0)
+    }
+
+    /// Opens a pass that looks only at registrations and cleanups whose numbers are at least this, and returns its number. It is the same pass as one that `begin`
+    /// opens if the objects of all others are marked: so a host with generations begins it from the number that the next registration had when its old objects
+    /// were young. If such an object isn't marked, it isn't asked about, and stays registered, and so does a cleanup; but by regions (`Machine::with_regions`) a pass
+    /// comes to each registered object. Links and ephemerons are looked at as by any pass.
+    ///
+    /// Such a pass asks nothing about old registrations and cleanups, but walks over their tables. Fails with `PassOpen`.
+    pub fn begin_from(&mut self, from: u64) -> Result<u64, Refused>
+        ensures judged { IsJudgedBy self.old.phase [] result }
+        ensures refused { OnErr result (self.new ≡ self.old) }
+        ensures number { IfOk result (λ number. number ≡ next_pass self.old.finalizers.passes) }
+        ensures begun { OnOk result (IsBegunFrom from self.old self.new) }
+    {
         if self.phase.is_some() {
             return Err(Refused::PassOpen);
         }
@@ -52,8 +67,9 @@ impl Machine {
         self.before = self.finalizers.queued();
         self.walk.clear();
         let phase = Phase::Keys(Moment::First);
-        begin(&self.finalizers, &mut self.walk, phase);
+        begin(&self.finalizers, &mut self.walk, from, phase);
         self.phase = Some(phase);
+        self.from = from;
         self.asked = 0;
         Ok(number)
     }
@@ -88,6 +104,7 @@ impl Machine {
             &mut self.finalizers,
             &mut self.walk,
             &mut self.regions,
+            self.from,
             phase,
         );
         self.asked = 0;

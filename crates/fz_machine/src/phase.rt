@@ -1,7 +1,7 @@
 //! The phases of a pass: those of bdwgc's finalize.c in its order, between two that queue cleanups, with those for ephemerons.
 
 ghost use Rattle.std.specs.Prelude.{◌≡◌};
-ghost use Rattle.fz_machine.specs.Phases.{behind, next_phase, child_ask, pick_ask, asks, subject, keeps, puts_off, settles, is_objects};
+ghost use Rattle.fz_machine.specs.Phases.{behind, next_phase, child_ask, pick_ask, asks, subject, keeps, settles, is_objects};
 
 use crate::item::Item;
 use crate::question::Ask;
@@ -40,7 +40,7 @@ impl Moment {
 pub enum Phase {
     /// Asks which keys of ephemerons are marked, and puts off the others.
     Keys(Moment),
-    /// The same for those that were put off, after values were marked.
+    /// The same for those that were put off, after values were marked: for those whose keys the host has told, or for all.
     KeysAgain(Moment),
     /// Asks whether the objects that contain the words of those with marked keys are marked, and puts off the others.
     Holders(Moment),
@@ -111,15 +111,15 @@ fn pick_ask(kind: Kind) -> Option<Ask>
 }
 
 impl Phase {
-    /// The following phase, given the items that this one has kept.
-    pub(crate) fn next(self, kept: &[Item]) -> Option<Phase>
-        ensures { result ≡ next_phase self kept.now }
+    /// The following phase, given whether the ephemerons that were put off are looked at again.
+    pub(crate) fn next(self, again: bool) -> Option<Phase>
+        ensures { result ≡ next_phase self again }
     {
         match self {
             Phase::Keys(moment) | Phase::KeysAgain(moment) => Some(Phase::Holders(moment)),
             Phase::Holders(moment) => Some(Phase::Values(moment)),
-            Phase::Values(moment) if kept.is_empty() => Some(moment.behind()),
-            Phase::Values(moment) => Some(Phase::KeysAgain(moment)),
+            Phase::Values(moment) if again => Some(Phase::KeysAgain(moment)),
+            Phase::Values(moment) => Some(moment.behind()),
             Phase::ShortCleanups => Some(Phase::ShortTargets),
             Phase::ShortTargets => Some(Phase::ShortWords),
             Phase::ShortWords => Some(Phase::ShortKeys),
@@ -209,27 +209,18 @@ impl Phase {
         ensures { result ≡ keeps self item.now yes }
     {
         match self {
-            Phase::Keys(_) | Phase::KeysAgain(_) | Phase::Holders(_) | Phase::Values(_) => yes,
+            Phase::Keys(_) | Phase::KeysAgain(_) | Phase::Holders(_) => yes,
             Phase::ShortTargets | Phase::LongTargets => !yes,
             Phase::ShortKeys | Phase::LongKeys => !yes,
             Phase::Objects | Phase::Again | Phase::LateAgain => !yes,
             Phase::Children => true,
             Phase::Picks => item.kind == Kind::Unreachable,
+            Phase::Values(_) => false,
             Phase::ShortWords | Phase::LongWords | Phase::LatePicks => false,
             Phase::ShortKeyWords | Phase::LongKeyWords => false,
             Phase::ShortHolders | Phase::LongHolders => false,
             Phase::ShortKeyHolders | Phase::LongKeyHolders => false,
             Phase::ShortCleanups | Phase::LongCleanups => false,
-        }
-    }
-
-    /// Whether it puts the ephemeron off, given the answer.
-    pub(crate) fn puts_off(self, yes: bool) -> bool
-        ensures { result ≡ puts_off self yes }
-    {
-        match self {
-            Phase::Keys(_) | Phase::KeysAgain(_) | Phase::Holders(_) => !yes,
-            _ => false,
         }
     }
 }

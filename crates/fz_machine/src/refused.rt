@@ -6,7 +6,7 @@ use thiserror::Error;
 /// in memory, which ends an iteration over roots.
 #[derive(Clone, Copy, Debug, PartialEq, Eq, Error)]
 pub enum Refused {
-    /// A pass is open. Until it ends only answers, takes and finishes are accepted.
+    /// A pass is open. Until it ends only answers, keys that are told, takes and finishes are accepted.
     #[error("a pass is open")]
     PassOpen,
     /// No pass is open.

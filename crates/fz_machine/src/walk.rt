@@ -1,12 +1,15 @@
 //! The list that a phase processes, and the lists beside it.
 
-ghost use Rattle.std.specs.Prelude.{◌≡◌, ◌≤◌, ◌<◌, ◌+◌, ◌^◌, ◌++◌, ◌∷◌, [], if◌then◌else◌, min, drop, length, slice_get, vec_capacity, OnOk, OnErr};
+ghost use Rattle.std.specs.Prelude.{◌≡◌, ◌≤◌, ◌<◌, ◌+◌, ◌^◌, ◌++◌, ◌∷◌, [], if◌then◌else◌, min, drop, length, slice_get, vec_capacity, true, OnOk, OnErr};
 ghost use Rattle.fz_machine.specs.Going.{KeepsBeside};
 ghost use Rattle.fz_machine.specs.Items.{AreInTurn, place_of};
+ghost use Rattle.fz_machine.specs.Off.{TellsOff, count_off, looked_at, looking, looks_again, none_off, stuck_with};
 ghost use Rattle.fz_machine.specs.Phases.{settles};
 
 use crate::item::Item;
 use crate::phase::Phase;
+use crate::rows::{Rows, make_room};
+use fz_model::Addr;
 use std::alloc::{AllocError, Global};
 use std::marker::Model;
 use std::mem;
@@ -21,7 +24,7 @@ pub struct Walk {
     /// What is set aside.
     aside: Vec<Item>,
     /// The ephemerons that are put off.
-    off: Vec<Item>,
+    rows: Rows,
 }
 
 impl Model for Walk {
@@ -36,10 +39,10 @@ impl Model for Walk {
       kept = take w.kept w.items.items;
       left = drop w.place w.items.items;
       aside = w.aside.items;
-      off = w.off.items;
+      off = w.rows.off;
       room = vec_capacity w.items;
       other = vec_capacity w.aside;
-      off_room = vec_capacity w.off;
+      off_room = w.rows.room;
     } };
 
     ghost invariant = { λ w. (w.kept ≤ w.place) × (w.place ≤ length w.items.items) };
@@ -50,18 +53,6 @@ fn place_of(item: &Item) -> u128
     ensures { result ≡ place_of item.now }
 {
     u128::from(item.turn) * 0x1_0000_0000_0000_0000 + u128::from(item.object)
-}
-
-/// Makes room for this many items in a list, and if it allocates, for an eighth more.
-fn make_room(items: &mut Vec<Item>, most: usize) -> Result<(), AllocError>
-    ensures kept { vec_capacity items.old ≤ vec_capacity items.new }
-    ensures room { OnOk result (most ≤ vec_capacity items.new) }
-{
-    items.clear();
-    if most > items.capacity() {
-        items.reserve_exact(most.saturating_add(most / 8))?;
-    }
-    Ok(())
 }
 
 impl Walk {
@@ -75,7 +66,7 @@ impl Walk {
             kept: 0,
             place: 0,
             aside: Vec::new(alloc),
-            off: Vec::new(alloc),
+            rows: Rows::new(alloc),
         }
     }
 
@@ -110,7 +101,7 @@ impl Walk {
     {
         self.reserve(most)?;
         make_room(&mut self.aside, most)?;
-        make_room(&mut self.off, most)
+        self.rows.reserve(most)
     }
 
     /// Frees memory, except the room for this many items, and for this many ephemerons beside them. Clears the list.
@@ -125,8 +116,7 @@ impl Walk {
         self.items.shrink_to(most);
         self.aside.clear();
         self.aside.shrink_to(rows);
-        self.off.clear();
-        self.off.shrink_to(rows);
+        self.rows.shrink(rows);
     }
 
     /// Lists these items, all of which remain to be processed.
@@ -166,13 +156,6 @@ impl Walk {
         &self.items[self.place..]
     }
 
-    /// The kept items.
-    pub(crate) fn kept(&self) -> &[Item]
-        ensures { result.now ≡ self.now.kept }
-    {
-        &self.items[..self.kept]
-    }
-
     /// Moves past the first remaining item, and keeps it or not.
     #[tactic(auto, using(crate::proofs::Kept::passed, crate::proofs::Kept::passed_set))]
     pub(crate) fn pass_on(&mut self, item: Item, keep: bool)
@@ -192,32 +175,56 @@ impl Walk {
 
     /// Puts an ephemeron off. There is room for it.
     pub(crate) fn put_off(&mut self, item: Item)
-        requires room { length self.old.off < self.old.off_room }
-        ensures off { self.new ≡ record self.old { off = self.old.off ++ item ∷ []; off_room = self.new.off_room } }
+        requires room { length self.old.off.stuck < self.old.off_room }
+        ensures off { self.new ≡ record self.old { off = stuck_with self.old.off item; off_room = self.new.off_room } }
         ensures room { self.old.off_room ≤ self.new.off_room }
     {
-        let _ = self.off.push(item);
+        self.rows.put_off(item);
+    }
+
+    /// Notes that a value may have been marked.
+    pub(crate) fn value_marked(&mut self)
+        ensures { self.new ≡ record self.old { off = record self.old.off { again = true } } }
+    {
+        self.rows.value_marked();
+    }
+
+    /// Whether the ephemerons that are put off are looked at again.
+    pub(crate) fn looks_again(&self) -> bool
+        ensures { result ≡ looks_again self.now.off }
+    {
+        self.rows.looks_again()
+    }
+
+    /// Processes that the host has told a key.
+    pub(crate) fn tell(&mut self, key: Addr)
+        requires room { count_off self.old.off ≤ self.old.off_room }
+        ensures told { TellsOff key self.old.off self.new.off }
+        ensures others { self.new ≡ record self.old { off = self.new.off; off_room = self.new.off_room } }
+        ensures room { self.old.off_room ≤ self.new.off_room }
+    {
+        self.rows.tell(key);
     }
 
     /// Sets the kept items aside, and lists none.
     pub(crate) fn set_aside(&mut self)
-        ensures { self.new ≡ record { kept = []; left = []; aside = self.old.kept; off = []; room = self.old.other; other = self.old.room; off_room = self.old.off_room } }
+        ensures { self.new ≡ record { kept = []; left = []; aside = self.old.kept; off = none_off; room = self.old.other; other = self.old.room; off_room = self.old.off_room } }
     {
         self.items.truncate(self.kept);
         mem::swap(&mut self.items, &mut self.aside);
         self.items.clear();
-        self.off.clear();
+        self.rows.clear();
         self.kept = 0;
         self.place = 0;
     }
 
     /// Starts again with the items that were set aside.
     pub(crate) fn resume(&mut self)
-        ensures { self.new ≡ record { kept = []; left = self.old.aside; aside = []; off = []; room = self.old.other; other = self.old.room; off_room = self.old.off_room } }
+        ensures { self.new ≡ record { kept = []; left = self.old.aside; aside = []; off = none_off; room = self.old.other; other = self.old.room; off_room = self.old.off_room } }
     {
         mem::swap(&mut self.items, &mut self.aside);
         self.aside.clear();
-        self.off.clear();
+        self.rows.clear();
         self.kept = 0;
         self.place = 0;
     }
@@ -233,14 +240,16 @@ impl Walk {
         }
     }
 
-    /// Starts again with the ephemerons that were put off.
-    pub(crate) fn again_off(&mut self)
-        ensures { self.new ≡ record self.old { kept = []; left = self.old.off; off = []; room = self.old.off_room; off_room = self.old.room } }
+    /// Starts again with those of the ephemerons that were put off that the next round looks at.
+    pub(crate) fn look_again(&mut self)
+        requires room { count_off self.old.off ≤ self.old.off_room }
+        ensures off { self.new ≡ record self.old { kept = []; left = looked_at self.old.off; off = looking self.old.off; room = self.new.room; off_room = self.new.off_room } }
+        ensures room { self.old.off_room ≤ self.new.room }
+        ensures off_room { min self.old.off_room self.old.room ≤ self.new.off_room }
     {
-        mem::swap(&mut self.items, &mut self.off);
-        self.off.clear();
         self.kept = 0;
         self.place = 0;
+        self.rows.look(&mut self.items);
     }
 
     /// Removes all items.

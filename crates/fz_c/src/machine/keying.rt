@@ -1,7 +1,7 @@
 //! Ephemerons.
 
 ghost use Rattle.std.specs.Prelude.{◌≡◌};
-ghost use Rattle.fz_c.specs.MachineChanges.{EndsEphemeron, MakesEphemeron, MovesEphemeron};
+ghost use Rattle.fz_c.specs.MachineChanges.{EndsEphemeron, MakesEphemeron, MovesEphemeron, TellsKey};
 ghost use Rattle.fz_c.specs.MachineCodes.{Behind};
 
 use crate::handle::behind;
@@ -94,4 +94,17 @@ pub extern "C" fn fz_machine_move_ephemeron(
         }
         Err(refused) => code_of(refused),
     }
+}
+
+/// `Machine::key_marked`.
+#[unsafe(no_mangle)]
+pub extern "C" fn fz_machine_key_marked(
+    alloc: Global,
+    finalizers: &mut MachineHandle,
+    key: u64,
+) -> Code
+    ensures { Behind finalizers.old.value finalizers.new.value result (Unit {0}) (TellsKey key result) }
+{
+    behind!(alloc, finalizers, NOT_OPEN, |it| it.machine.key_marked(key));
+    OK
 }

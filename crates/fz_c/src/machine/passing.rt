@@ -3,7 +3,7 @@
 ghost use Rattle.std.specs.Prelude.{◌≡◌, [], None, IfErr, IfOk, OnErr};
 ghost use Rattle.fz_machine.specs.Asks.{bits_of};
 ghost use Rattle.fz_machine.specs.Causes.{first_of};
-ghost use Rattle.fz_machine.specs.Machines.{GoesTo, IsBegun, Writes, next_of};
+ghost use Rattle.fz_machine.specs.Machines.{GoesTo, IsBegunFrom, Writes, next_of};
 ghost use Rattle.fz_machine.specs.declared.refused.Refused.TheVariants.{NoPass};
 ghost use Rattle.fz_c.specs.MachineChanges.{QueuesAll, QueuesCleanups};
 ghost use Rattle.fz_c.specs.MachineCodes.{Answers, Behind};
@@ -33,12 +33,21 @@ pub struct Passed {
     pub picked: u64,
 }
 
-/// `Machine::begin`.
+/// `Machine::begin_from`.
 #[unsafe(no_mangle)]
-pub extern "C" fn fz_machine_begin(alloc: Global, finalizers: &mut MachineHandle) -> Code
-    ensures { Behind finalizers.old.value finalizers.new.value result (Unit {0}) (λ m n. Answers (first_of m.phase []) result (IsBegun m n) (n ≡ m)) }
+pub extern "C" fn fz_machine_begin(
+    alloc: Global,
+    finalizers: &mut MachineHandle,
+    from: u64,
+) -> Code
+    ensures { Behind finalizers.old.value finalizers.new.value result (Unit {0}) (λ m n. Answers (first_of m.phase []) result (IsBegunFrom from m n) (n ≡ m)) }
 {
-    let reply = behind!(alloc, finalizers, NOT_OPEN, |it| it.machine.begin());
+    let reply = behind!(
+        alloc,
+        finalizers,
+        NOT_OPEN,
+        |it| it.machine.begin_from(from)
+    );
     match reply {
         Ok(_) => OK,
         Err(refused) => code_of(refused),

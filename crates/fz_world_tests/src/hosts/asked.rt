@@ -148,6 +148,8 @@ impl Graph {
 pub(crate) struct Asked {
     graph: Graph,
     machine: Machine,
+    /// Whether a pass is told which keys are marked.
+    tells: bool,
 }
 
 impl Asked {
@@ -161,7 +163,13 @@ impl Asked {
                 gone: [false; OBJECTS],
             },
             machine: Machine::new(alloc).expect(rt, "memory"),
+            tells: false,
         }
+    }
+
+    /// From now on passes are told which keys are marked, or not.
+    pub(crate) fn set_tells(&mut self, tells: bool) {
+        self.tells = tells;
     }
 
     /// Stores a reference to another object in a word of an object.
@@ -299,6 +307,19 @@ impl Asked {
         self.graph.close();
     }
 
+    /// After values were marked, tells all objects that are marked.
+    fn tell(&mut self, ask: Ask) {
+        if !self.tells || ask != Ask::MarkValue {
+            return;
+        }
+        for index in 0..OBJECTS as u64 {
+            let object = number_of(index);
+            if self.graph.is_marked(object) {
+                self.machine.key_marked(object);
+            }
+        }
+    }
+
     /// A pass by questions and answers.
     fn pass(&mut self, rt: &impl Abort) -> Passed {
         self.machine.begin().expect(rt, "no other pass");
@@ -306,7 +327,10 @@ impl Asked {
         // No pass of so few objects asks this many questions.
         for _ in 0..1_000 {
             match self.machine.next(&answers).expect(rt, "an open pass") {
-                Next::Asks(question) => answers = answers_of(&mut self.graph, &question),
+                Next::Asks(question) => {
+                    answers = answers_of(&mut self.graph, &question);
+                    self.tell(question.ask);
+                }
                 Next::Ended(passed) => return passed,
             }
         }

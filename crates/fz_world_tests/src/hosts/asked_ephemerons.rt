@@ -125,15 +125,18 @@ fn carry_out(rt: &impl Abort, objects: &mut Objects, step: Step) {
     }
 }
 
-/// Carries out the steps of a row, over a graph without objects.
+/// Carries out the steps of a row, over a graph without objects, with keys that are told and without.
 fn play(rt: &impl Abort, alloc: Global, steps: &[Step]) {
-    let mut objects = Objects {
-        asked: Asked::new(rt, alloc),
-        ids: Vec::new(alloc),
-    };
-    objects.asked.collect(rt);
-    for step in steps {
-        carry_out(rt, &mut objects, *step);
+    for tells in [false, true].iter() {
+        let mut objects = Objects {
+            asked: Asked::new(rt, alloc),
+            ids: Vec::new(alloc),
+        };
+        objects.asked.set_tells(*tells);
+        objects.asked.collect(rt);
+        for step in steps {
+            carry_out(rt, &mut objects, *step);
+        }
     }
 }
 

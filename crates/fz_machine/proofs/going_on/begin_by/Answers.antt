@@ -1,10 +1,10 @@
-use Rattle.std.proofs.Common.{◌≡◌, false, true≢false, ◌≤◌, ◌++◌, [], length, reverse, Some, ap, sym, subst, refl, inr, ◌∙◌, append-nil, arith}
+use Rattle.std.proofs.Common.{cond, ◌≡◌, false, true≢false, ◌≤◌, ◌++◌, [], length, reverse, Some, ap, sym, subst, refl, inr, ◌∙◌, append-nil, arith}
 use Rattle.fz_machine.specs.declared.phase.Phase.{Phase}
 use Rattle.fz_machine.specs.declared.phase.Phase.TheVariants.{Objects}
 use Rattle.std.proofs.lemmas.List.{length-reverse}
 use Rattle.fz_machine.specs.Going.{HaveRoom, begins_with, follows_settling}
 use Rattle.fz_machine.specs.Items.{AreObjects}
-use Rattle.fz_machine.specs.Phases.{Lists, aside_in, given, off_in, settles}
+use Rattle.fz_machine.specs.Phases.{Lists, aside_in, given, off_in, scope_by, settles}
 use Rattle.fz_machine.specs.Regions.{Regions, AreNoted, items_in}
 use Rattle.fz_machine.specs.Walks.{Walk}
 use Rattle.fz_machine.proofs.Ending.{objects_is}
@@ -27,8 +27,9 @@ returns-then-is_complete-clause-begins c =
       none = ap (λ (w : Walk). w.kept) c.clear.ensures;
       aside = ap (λ (w : Walk). w.aside) c.clear.ensures ∙ ap (λ (p : Phase). aside_in p c.args.walk.now.kept c.args.walk.now.aside) (sym is);
       off = ap (λ (w : Walk). w.off) c.clear.ensures ∙ ap (λ (p : Phase). off_in p c.args.walk.now.off) (sym is);
-      lists = subst (λ (p : Phase). Lists p s (given p c.args.walk.now.kept c.args.walk.now.aside c.args.walk.now.off) (items_in s c.begin.new.self.left ++ c.clear.new.self.left)) (sym is)
-          (subst (AreObjects s.registrations s.late) (sym all) (regions_list s rs c.begin.ensures.regions noted));
+      lists = subst (λ (p : Phase). Lists p (scope_by c.args.regions.now.complete c.args.from) s (given p c.args.walk.now.kept c.args.walk.now.aside c.args.walk.now.off) (items_in s c.begin.new.self.left ++ c.clear.new.self.left)) (sym is)
+          (subst (λ b. AreObjects (cond b 0 c.args.from) s.registrations s.late (items_in s c.begin.new.self.left ++ c.clear.new.self.left)) (sym (sym c.is_complete.ensures ∙ c.if-is_complete.true))
+          (subst (AreObjects 0 s.registrations s.late) (sym all) (regions_list s rs c.begin.ensures.regions noted)));
     }
 
 pub returns-then-is_complete-clause-order : goal.returns-then-is_complete-clause-order

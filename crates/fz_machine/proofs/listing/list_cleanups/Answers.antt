@@ -1,4 +1,4 @@
-use Rattle.std.proofs.Common.{◌≡◌, ◌++◌, ◌∷◌, [], ◌∙◌, ℕ, Bool, cond, List, length, sym, ap, refl, subst, ◌<◌, ◌^◌, arith}
+use Rattle.std.proofs.Common.{◌&&◌, nat_le, ◌≡◌, ◌++◌, ◌∷◌, [], ◌∙◌, ℕ, Bool, cond, List, length, sym, ap, refl, subst, ◌<◌, ◌^◌, arith}
 use Rattle.std.proofs.lemmas.List.Elements.{All-nil}
 use Rattle.fz_pass.proofs.Walking.{one_on, all_of}
 use Rattle.fz_finalizers.specs.declared.cleanups.Attached.{Attached}
@@ -24,12 +24,12 @@ pub loop-number-preserved : goal.loop-number-preserved
 loop-number-preserved c =
     let inv = c.loop-number.invariant in
     let e : ℕ × Attached = (c.in-Some.number, c.in-Some.attached) in
-    let on : Bool = is_when c.args.when e.1.cleanup.when in
+    let on : Bool = nat_le c.args.from e.0 && is_when c.args.when e.1.cleanup.when in
     let steps = ap length c.in-Some.ensures.steps in
     let more = fewer on c.loop-number.items.items (of_cleanup e) in
     let long = ap length c.put_if_when.ensures.listed in
     record {
-      listed = c.put_if_when.ensures.listed ∙ ap (λ (xs : List Item). cond on (xs ++ of_cleanup e ∷ []) xs) inv.listed ∙ sym (items_more c.args.when c.loop-number.yielded e);
+      listed = c.put_if_when.ensures.listed ∙ ap (λ (xs : List Item). cond on (xs ++ of_cleanup e ∷ []) xs) inv.listed ∙ sym (items_more c.args.from c.args.when c.loop-number.yielded e);
       words = subst AreWords (sym c.put_if_when.ensures.listed) (words_more on c.loop-number.items.items (of_cleanup e) c.put_if_when.ensures.number inv.words);
       few = omega (arith, steps, more, long, inv.few);
       grown = omega (arith, inv.grown, c.put_if_when.ensures.capacity);
@@ -40,4 +40,4 @@ pub returns-clause-listed : goal.returns-clause-listed
 returns-clause-listed c =
     let es = c.iter_cleanups-number-items.result in
     let all : c.loop-number.yielded ≡ es = all_of c.loop-number.yielded _ es (c.loop-number.invariant.rest ∙ c.into_iter-number-iterator.ensures.into_iter_gives) c.in-None.ensures.steps.0 in
-    (es, c.iter_cleanups-number-items.ensures.all, c.loop-number.invariant.listed ∙ ap (items_of c.args.when) all)
+    (es, c.iter_cleanups-number-items.ensures.all, c.loop-number.invariant.listed ∙ ap (items_of c.args.from c.args.when) all)

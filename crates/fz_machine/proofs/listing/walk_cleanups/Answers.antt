@@ -15,5 +15,5 @@ returns-clause-listed c =
     let of = c.list_cleanups.ensures.listed in
     let zs = unmapped of_cleanup _ items (subst (λ (xs : List Item). IsPermutation xs items) of.2 sorted.permutation) in
     let words = All-permutation (λ (i : Item). i.word < 2 ^ 64) c.list_cleanups.new.items.items items sorted.permutation c.list_cleanups.ensures.numbers in
-    subst (λ (w : Walk). AreCleanups c.args.when c.args.finalizers.now.state.cleanups w.left) (sym c.put.ensures)
-    (are_cleanups c.args.when _ of.0 of.1 zs.0 zs.1 items zs.2 words up)
+    subst (λ (w : Walk). AreCleanups c.args.from c.args.when c.args.finalizers.now.state.cleanups w.left) (sym c.put.ensures)
+    (are_cleanups c.args.from c.args.when _ of.0 of.1 zs.0 zs.1 items zs.2 words up)

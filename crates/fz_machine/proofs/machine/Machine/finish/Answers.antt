@@ -13,6 +13,6 @@ invariant_of-self c =
 
 pub returns-clause-keeps : goal.returns-clause-keeps
 returns-clause-keeps c =
-    ap (λ (w : Walk). record { finalizers = c.finish.new.self; walk = w; phase = c.self.inside.phase; asked = c.self.inside.asked; before = c.self.inside.before; regions = take c.self.inside.regions.asked c.self.inside.regions.left; by_regions = c.self.inside.by_regions; noted = c.self.inside.regions.complete; tabled = length c.self.inside.regions.order; remaining = length c.self.inside.regions.left })
+    ap (λ (w : Walk). record { finalizers = c.finish.new.self; walk = w; phase = c.self.inside.phase; asked = c.self.inside.asked; before = c.self.inside.before; from = c.self.inside.from; regions = take c.self.inside.regions.asked c.self.inside.regions.left; by_regions = c.self.inside.by_regions; noted = c.self.inside.regions.complete; tabled = length c.self.inside.regions.order; remaining = length c.self.inside.regions.left })
     (finished_walk c.self.inside.walk c.self.inside.regions c.self.inside.finalizers.state c.finish.new.self.state (Finish c.args.entry.now) (machines.Finishes c.args.entry.now) c.finish.result c.finish.ensures.refused c.finish.ensures.follows)
     ∙ ap (λ (m : Machine). record m { finalizers = c.finish.new.self }) c.self.view_is

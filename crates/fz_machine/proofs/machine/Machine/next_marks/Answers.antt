@@ -16,7 +16,7 @@ returns-clause-goes c =
     marked_on c.self.inside.finalizers c.self.inside.walk c.hear_marks.new.walk c.self.inside.regions c.hear_marks.new.regions c.self.inside.phase c.in-Some.phase c.self.inside.asked c.args.marks.now c.self.invariant c.in-Some.is
     c.hear_marks.ensures.heard c.hear_marks.ensures.room c.hear_marks.ensures.beside c.hear_marks.ensures.same c.hear_marks.ensures.left c.hear_marks.ensures.none c.hear_marks.ensures.noted in
     subst (λ (m : Machine). GoesTo m (marks_say m.finalizers.state m.regions c.args.marks.now) c.ask.new.self (next_of c.ask.result c.ask.new.about)) c.self.view_is
-    (after_answers _ _ _ _ _ c.in-Some.phase c.in-Some.is refl heard refl refl c.hear_marks.ensures.same c.hear_marks.ensures.tabled
+    (after_answers _ _ _ _ _ c.in-Some.phase c.in-Some.is refl heard refl refl c.hear_marks.ensures.same refl c.hear_marks.ensures.tabled
     (heard_fewer c.self.inside.regions c.hear_marks.new.regions c.hear_marks.ensures.tabled c.hear_marks.ensures.left c.self.inside.phase) c.ask.ensures.goes)
 
 pub returns-clause-over : goal.returns-clause-over
