@@ -55,7 +55,7 @@ int main(void)
         put(roots[0], n, key, value);
     }
     collect(roots[0]);
-    roots[2] = 0; /* the key of row 1 has no other user */
+    roots[2] = 0; /* the key of that row has no other user */
     collect(roots[0]);
     roots[1] = roots[3] = 0;
     collect(roots[0]);
