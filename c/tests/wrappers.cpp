@@ -246,6 +246,17 @@ static string pass_over(finalizers &f, const arguments &a)
     return shown(a.is("lacking") ? own.pass(noting_host{false}) : own.pass(whole_host{{a.is("throws")}}));
 }
 
+/* The next number, after a registration; or that of closed finalizers. */
+static string numbered(finalizers &f, const arguments &a)
+{
+    if (a.is("closed")) {
+        finalizers own = std::move(f);
+        return shown(f.next_number());
+    }
+    f.register_object(a.number(0), finalizers::kind::normal, a.number(1), a.number(2));
+    return shown(f.next_number());
+}
+
 static string asked(finalizers &f, std::uint64_t answers)
 {
     finalizers::open_pass pass(f);
@@ -435,7 +446,7 @@ static const std::map<string, member> members = {
     {"finalizers_abandon", [](fixture &f, const arguments &) { return abandoned(f.finalizers, false); }},
     {"finalizers_next", [](fixture &f, const arguments &a) { return asked(f.finalizers, a.number(0)); }},
     {"finalizers_pass", [](fixture &f, const arguments &a) { return pass_over(f.finalizers, a); }},
-    {"finalizers_pass_from", SHOWN(f.finalizers.pass_from(a.number(0), whole_host{{false}}))},
+    {"finalizers_pass_from", SHOWN(a.words.size() > 1 ? f.finalizers.pass_from(a.number(0), noting_host{false}) : f.finalizers.pass_from(a.number(0), whole_host{{false}}))},
     {"finalizers_why", [](fixture &f, const arguments &a) { return reasoned(f.finalizers, a); }},
     {"finalizers_stuck", [](fixture &f, const arguments &a) { return stuck(f.finalizers, a); }},
     {"finalizers_queue_all", SHOWN(f.finalizers.queue_all())},
@@ -443,7 +454,7 @@ static const std::map<string, member> members = {
     {"finalizers_take", SHOWN_IN_PASS(shown(f.finalizers.take()))},
     {"finalizers_take_finished", SHOWN_IN_PASS(shown(f.finalizers.take_finished()))},
     {"finalizers_finish", SHOWN_IN_PASS((f.finalizers.finish(a.finalizers_entry(0)), string("done")))},
-    {"finalizers_next_number", SHOWN((f.finalizers.register_object(a.number(0), finalizers::kind::normal, a.number(1), a.number(2)), f.finalizers.next_number()))},
+    {"finalizers_next_number", [](fixture &f, const arguments &a) { return numbered(f.finalizers, a); }},
     {"finalizers_has_waiting", SHOWN((f.finalizers.queue_all(), f.finalizers.has_waiting()))},
     {"finalizers_invoke", [](fixture &f, const arguments &a) { return invoked(f.finalizers, a.is("throws")); }},
     {"finalizers_roots", [](fixture &f, const arguments &a) { return walked([&](auto visit) { f.finalizers.roots(a.kind(sorts_of_roots), visit); }); }},

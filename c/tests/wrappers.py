@@ -290,6 +290,15 @@ def passed(finalizers, how, opened=None):
         return shown(own.run_pass(Lacking('returns') if how == 'lacking' else Host(how)))
 
 
+def numbered(finalizers, *arguments):
+    """The next number, after a registration; or that of `closed` finalizers."""
+    if arguments == ('closed',):
+        finalizers.destroy()
+    else:
+        finalizers.register(*arguments)
+    return shown(finalizers.next_number())
+
+
 def asked(finalizers, answers, then=None):
     """A question; or what comes of the answers `then` to it, of which there are too few."""
     with finalizers.open_pass() as questions:
@@ -381,7 +390,7 @@ MEMBERS_OF_FINALIZERS = {
     'abandon': lambda it: abandoned(it, False),
     'next': asked,
     'pass': passed,
-    'pass_from': lambda it, start: shown(it.run_pass(Host('returns'), start)),
+    'pass_from': lambda it, start, how='returns': shown(it.run_pass(Lacking('returns') if how == 'lacking' else Host(how), start)),
     'why': reasoned,
     'stuck': stuck,
     'queue_all': lambda it: shown(it.queue_all()),
@@ -389,7 +398,7 @@ MEMBERS_OF_FINALIZERS = {
     'take': in_pass(lambda it: shown(it.take())),
     'take_finished': in_pass(lambda it: shown(it.take_finished())),
     'finish': in_pass(lambda it, first: done(it.finish(over.Entry(*range(first, first + 6))))),
-    'next_number': lambda it, object, proc, cd: (it.register(object, proc, cd), shown(it.next_number()))[1],
+    'next_number': numbered,
     'has_waiting': waiting_after_all,
     'invoke': run_of_finalizers,
     'roots': lambda it, sort: walked(it.roots(sort)),
