@@ -94,9 +94,9 @@ slot_out slot xs rest x s seats all is here before =
 pub one_less : {X L : Type 0} (procs : X → L) (xs rest : List X) (x : X) (all : List L) (number : ℕ) → xs ≡ x ∷ rest → ((i : ℕ) → slice_get (map procs xs) i ≡ slice_get all (number + i))
     → (slice_get all number ≡ Some (procs x)) × ((i : ℕ) → slice_get (map procs rest) i ≡ slice_get all ((number + 1) + i))
 one_less procs xs rest x all number is left = (
-      ap (slice_get all) (omega arith) ∙ sym (left 0) ∙ ap (λ ys. slice_get (map procs ys) 0) is,
-      λ i. ap (λ ys. slice_get (map procs ys) (suc i)) (sym is) ∙ left (suc i) ∙ ap (slice_get all) (omega arith),
-    )
+  ap (slice_get all) (omega arith) ∙ sym (left 0) ∙ ap (λ ys. slice_get (map procs ys) 0) is,
+  λ i. ap (λ ys. slice_get (map procs ys) (suc i)) (sym is) ∙ left (suc i) ∙ ap (slice_get all) (omega arith),
+)
 
 -- each list is where it was, with as many procedures
 pub lists_back : {X L : Type 0} (procs : X → L) (size : L → ℕ) (before between after : List L) (went came : List X) → length between ≡ length before → length came ≡ length went

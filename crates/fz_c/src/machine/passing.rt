@@ -35,11 +35,7 @@ pub struct Passed {
 
 /// `Machine::begin_from`.
 #[unsafe(no_mangle)]
-pub extern "C" fn fz_machine_begin(
-    alloc: Global,
-    finalizers: &mut MachineHandle,
-    from: u64,
-) -> Code
+pub extern "C" fn fz_machine_begin(alloc: Global, finalizers: &mut MachineHandle, from: u64) -> Code
     ensures { Behind finalizers.old.value finalizers.new.value result (Unit {0}) (λ m n. Answers (first_of m.phase []) result (IsBegunFrom from m n) (n ≡ m)) }
 {
     let reply = behind!(
