@@ -13,7 +13,7 @@
 enum { TURNS = 9, FEW_TURNS = 2, MANY = 2000000, HEAD = 16 };
 
 static derrimas_finalizers finalizers;
-static bool by_regions; /* whether it is opened with the option `marks` */
+static bool by_regions; /* whether it is opened with the options `marks` and `live` */
 
 static void fail(const char *what) { fprintf(stderr, "questions: %s\n", what); exit(1); }
 static void must(derrimas_finalizers_code code) { if (code != DERRIMAS_FINALIZERS_OK) fail("a call was refused"); }
@@ -163,9 +163,11 @@ static double children(uint64_t n, bool alternate)
 static double one_by_one(uint64_t n) { return children(n, true); }
 static double in_batches(uint64_t n) { return children(n, false); }
 
-/* A whole pass, whose objects are all marked, or all unmarked. Those are queued. */
+/* A whole pass, whose objects are all marked, or all unmarked. Those are queued. Where all are marked, each is asked about once, or each region is; of a link so are
+ * its target and its word. */
 static double whole_pass(uint64_t n, how how, bool marked)
 {
+    const uint64_t each = by_regions ? n / 64 + 1 : n;
     derrimas_question question;
     derrimas_finalizers_passed passed;
     uint64_t asked = 0;
@@ -177,15 +179,63 @@ static double whole_pass(uint64_t n, how how, bool marked)
     while (derrimas_finalizers_next(&finalizers, marked ? UINT64_MAX : 0, &question, &passed) == DERRIMAS_FINALIZERS_OK)
         asked += question.count;
     t = now() - t;
-    if (passed.picked != (marked ? 0 : n) || (how == REGISTERED && marked && asked != (by_regions ? n / 64 + 1 : n)))
+    if (passed.picked != (marked ? 0 : n) || (marked && asked != (how == LINKED ? 2 * each : each)))
         fail("another pass");
     return t;
 }
 
 static double live(uint64_t n) { return whole_pass(n, REGISTERED, true); }
+static double live_linked(uint64_t n) { return whole_pass(n, LINKED, true); }
 static double live_cleanups(uint64_t n) { return whole_pass(n, CLEANED, true); }
 static double queued(uint64_t n) { return whole_pass(n, REGISTERED, false); }
 static double queued_cleanups(uint64_t n) { return whole_pass(n, CLEANED, false); }
+
+/* Ephemerons over a host with a byte for the mark of each object. The key of the i-th is object i, and its value object i + 1. */
+static unsigned char *byte_marks;
+static bool tells_keys; /* whether the host tells the keys that it marks */
+
+static bool byte_is_marked(void *data, uint64_t object) { (void)data; return byte_marks[object]; }
+static bool holder_is_marked(void *data, uint64_t word) { (void)data; (void)word; return true; }
+static void mark_nothing(void *data, uint64_t what) { (void)data; (void)what; }
+static void mark_no_children(void *data, uint64_t object, bool but_itself) { (void)data; (void)object; (void)but_itself; }
+
+static bool mark_next(void *data, uint64_t word)
+{
+    uint64_t value = word + 1;
+
+    (void)data;
+    if (byte_marks[value])
+        return false;
+    byte_marks[value] = 1;
+    if (tells_keys)
+        must(derrimas_finalizers_key_marked(&finalizers, value));
+    return true;
+}
+
+/* A whole pass over n ephemerons that are made by falling number, of whose keys the first is marked, or all are. */
+static double over_ephemerons(uint64_t n, bool chain)
+{
+    static const derrimas_host host = {byte_is_marked, mark_no_children, mark_nothing, mark_nothing, mark_nothing, holder_is_marked, NULL, NULL, mark_next};
+    derrimas_finalizers_linked answer;
+
+    byte_marks = calloc(n + 2, 1);
+    if (!byte_marks)
+        fail("no memory");
+    memset(byte_marks + 1, 1, chain ? 1 : n + 1);
+    for (uint64_t i = n; i > 0; i--)
+        must(derrimas_finalizers_ephemeron(&finalizers, DERRIMAS_FINALIZERS_LONG, i, i, &answer));
+    tells_keys = chain;
+    double t = now();
+    must(derrimas_finalizers_pass(&finalizers, &host, NULL, NULL));
+    t = now() - t;
+    if (!byte_marks[n + 1])
+        fail("another value");
+    free(byte_marks);
+    return t;
+}
+
+static double live_ephemerons(uint64_t n) { return over_ephemerons(n, false); }
+static double chained_ephemerons(uint64_t n) { return over_ephemerons(n, true); }
 
 /* The client data of all registrations, as a host marks from it once a collection. */
 static double roots(uint64_t n)
@@ -204,14 +254,18 @@ static double roots(uint64_t n)
     return t;
 }
 
-static const struct { const char *name; double (*turn)(uint64_t n); bool marks; } tests[] = {
+static const struct { const char *name; double (*turn)(uint64_t n); bool by_regions; } tests[] = {
     {"register", registered, false}, {"register_adjacent", registered_adjacent, false}, {"register_random", registered_random, false},
     {"register_by_regions", registered, true}, {"register_random_by_regions", registered_random, true},
-    {"link", linked, false}, {"link_random", linked_random, false}, {"add", added, false}, {"add_random", added_random, false},
+    {"link", linked, false}, {"link_random", linked_random, false}, {"link_by_regions", linked, true}, {"link_random_by_regions", linked_random, true},
+    {"add", added, false}, {"add_random", added_random, false},
     {"take_and_finish", taken, false}, {"bytes_registered", bytes_registered, false}, {"bytes_registered_by_regions", bytes_registered, true},
-    {"bytes_finished", bytes_finished, false}, {"bytes_linked", bytes_linked, false}, {"bytes_added", bytes_added, false},
+    {"bytes_finished", bytes_finished, false}, {"bytes_linked", bytes_linked, false}, {"bytes_linked_by_regions", bytes_linked, true},
+    {"bytes_added", bytes_added, false},
     {"one_by_one", one_by_one, false}, {"in_batches", in_batches, false}, {"live", live, false}, {"live_by_regions", live, true},
-    {"live_cleanups", live_cleanups, false}, {"queued", queued, false}, {"queued_cleanups", queued_cleanups, false}, {"roots", roots, false},
+    {"live_linked", live_linked, false}, {"live_linked_by_regions", live_linked, true},
+    {"live_cleanups", live_cleanups, false}, {"live_cleanups_by_regions", live_cleanups, true}, {"queued", queued, false}, {"queued_cleanups", queued_cleanups, false}, {"roots", roots, false},
+    {"live_ephemerons", live_ephemerons, false}, {"chained_ephemerons", chained_ephemerons, false},
 };
 
 int main(int count, char **words)
@@ -223,9 +277,9 @@ int main(int count, char **words)
         if (!strcmp(tests[i].name, words[1])) {
             double least = INFINITY;
             bool counts = !strncmp(words[1], "bytes", 5);
-            derrimas_finalizers_options counting = {sizeof counting, {allocate, reallocate, release, NULL}, tests[i].marks};
-            derrimas_finalizers_options plain = {.size = sizeof plain, .marks = tests[i].marks};
-            by_regions = tests[i].marks;
+            derrimas_finalizers_options counting = {sizeof counting, {allocate, reallocate, release, NULL}, tests[i].by_regions, tests[i].by_regions};
+            derrimas_finalizers_options plain = {.size = sizeof plain, .marks = tests[i].by_regions, .live = tests[i].by_regions};
+            by_regions = tests[i].by_regions;
             for (int turn = 0; turn < (counts ? 1 : turns); turn++) {
                 must(derrimas_finalizers_open(&finalizers, counts ? &counting : &plain));
                 least = fmin(least, tests[i].turn(n));

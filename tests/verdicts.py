@@ -1,13 +1,19 @@
 """The verdicts that tests/edits keeps, so that an edit is tried again only where its check would read something else.
 
 tests/edits.d/verdicts has a line for each edit that was refused: its name, a sum, and what refused it. The sum is the SHA-256 of all that the check read: the
-edit; the text and the proof of each function that it edits, or of the laws that a wrong definition makes false; the contracts, types, specs and lemma files of
-the crate without the bodies and proofs of its other functions; the same of the crates below; the toolchain's logic; and the text of tests/edits and of what it
-imports. An edit that was tried over the whole crate has a sum of the whole crate. Lines that are comments, and empty ones, count for nothing."""
+edit, with the line `laws:` of its file if it is a wrong definition; the text and the proof of each function that it edits, or of the laws that a wrong definition
+makes false; the contracts, types, specs and lemma files of the crate without the bodies and proofs of its other functions; the same of the crates below; the
+toolchain's logic; and the text of what judges (JUDGES). An edit that was tried over the whole crate has a sum of the whole crate. Lines that are comments, and
+empty ones, count for nothing.
+
+A line that isn't true, but has the right sum, is found once its edit is drawn. A run draws one edit in twenty by the hash of the tree, so another tree draws
+others: such a line is found within 14 trees with odds of one half, and within 59 with odds of 95 in 100."""
 import collections, hashlib, os
 from toolchain import logic
 
-COMMENT = {'.rt': '//', '.antt': '--', '.edit': '#', '.py': '#', '': '#'}
+COMMENT = {'.rt': '//', '.antt': '--', '.edit': '#', '.py': '#'}
+# What decides a verdict, beside the toolchain. The rest of tests/edits decides which edits are tried, and what of it is told.
+JUDGES = ('judging.py', 'toolchain.py')
 # An edit in so many is tried again whatever its line says, so that a line that isn't true is found within some runs.
 ONE_IN = 20
 
@@ -35,7 +41,7 @@ class Sums:
     """The sums of what checks read. `owners` has the crates by their names."""
 
     def __init__(self, owners):
-        tools = [os.path.join(os.path.dirname(os.path.abspath(__file__)), it) for it in ('edits', 'verdicts.py', 'toolchain.py')]
+        tools = [os.path.join(os.path.dirname(os.path.abspath(__file__)), it) for it in JUDGES]
         self.rules = sum_of(logic(), [without_comments(it, text_of(it).split('\n')) for it in tools])
         self.owners, self.files, self.faces = owners, {}, {}
 
@@ -72,7 +78,7 @@ class Sums:
         tried = [it for it in owner.functions if it in edit.functions or it.path in laws]
         left_out = [] if is_of_whole else [it for it in owner.functions if it.is_plain and it not in tried and owner.has_proof_of_its_own(it)]
         faces = [self.face(self.owners[it.name]) for it in sorted(owner.crate.below(), key=lambda it: it.name)]
-        text = without_comments('.edit', text_of(edit.path).split('\n'))
+        text = without_comments(edit.path, text_of(edit.path).split('\n')) + [f"laws: {', '.join(laws)}"] * bool(laws)
         return sum_of(self.rules, 'whole' if is_of_whole else 'functions', edit.name, text, self.crate(owner, left_out), faces)
 
 

@@ -8,7 +8,7 @@ typedef derrimas_finalizers_code code;
 
 /* ---- the opening: whether passes ask about regions. A program may wrap it, or the questions, itself. */
 
-static bool asks(bool marks) { return marks; }
+static bool asks(bool by_regions) { return by_regions; }
 
 code __real_derrimas_finalizers_open(handle *finalizers, const derrimas_finalizers_options *options);
 
@@ -17,6 +17,7 @@ __attribute__((weak)) code __wrap_derrimas_finalizers_open(handle *finalizers, c
     derrimas_finalizers_options between = *options;
 
     between.marks = asks(between.marks);
+    between.live = asks(between.live);
     return __real_derrimas_finalizers_open(finalizers, &between);
 }
 
@@ -40,16 +41,28 @@ static uint64_t altered(derrimas_ask ask, uint64_t count, uint64_t answers)
     return answers;
 }
 
+static bool says_live; /* whether all words are said to be in use from now on */
+
+/* The word of a region. So many questions of the pass came before this one. */
+static uint64_t altered_word(derrimas_ask ask, uint64_t before, uint64_t word)
+{
+    (void)before;
+    return says_live && ask == DERRIMAS_ASK_LIVE ? ~UINT64_C(0) : word;
+}
+
 code __real_derrimas_finalizers_next(handle *finalizers, uint64_t answers, derrimas_question *question, derrimas_finalizers_passed *passed);
 
 __attribute__((weak)) code __wrap_derrimas_finalizers_next(handle *finalizers, uint64_t answers, derrimas_question *question, derrimas_finalizers_passed *passed)
 {
     static derrimas_ask ask;
-    static uint64_t count;
+    static uint64_t count, asked;
     code next;
 
     do {
+        for (uint64_t n = 0; asked > 0 && (ask == DERRIMAS_ASK_MARKS || ask == DERRIMAS_ASK_LIVE) && n < count; n++)
+            question->marks[n] = altered_word(ask, asked - 1, question->marks[n]);
         next = __real_derrimas_finalizers_next(finalizers, altered(ask, count, answers), question, passed);
+        asked = next == DERRIMAS_FINALIZERS_OK ? asked + 1 : 0;
         ask = question->ask;
         count = question->count;
         answers = 0;

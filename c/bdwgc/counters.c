@@ -50,34 +50,58 @@ APART static void make_all(void)
     }
 }
 
-/* Registers large objects, frees them, and registers a small one that stays. Their blocks were marked in a collection, and are free, with others between them. */
-APART static void make_and_free(void **stays)
+APART static void make_large(void)
 {
-    void *large[LARGE];
-
     for (unsigned n = 0; n < LARGE; n++) {
-        large[n] = GC_malloc(LARGE_SIZE);
-        if (n % 2)
-            GC_register_finalizer(large[n], note, 0, 0, 0);
+        objects[n] = GC_malloc(LARGE_SIZE);
+        GC_register_finalizer(objects[n], note, 0, 0, 0);
     }
-    collect();
-    for (unsigned n = 1; n < LARGE; n += 2) {
-        GC_register_finalizer(large[n], 0, 0, 0, 0);
-        GC_free(large[n]);
-    }
-    *stays = GC_malloc(SIZE);
-    GC_register_finalizer(*stays, note, 0, 0, 0);
 }
 
-/* Of a region without a registered object a pass asks once more at most. */
-APART static void free_all(void **stays)
+/* Frees a large object, whose finalizer is removed, and returns its address, hidden. */
+APART static uintptr_t free_large(unsigned n)
 {
-    make_and_free(stays);
+    const uintptr_t hidden = ~(uintptr_t)objects[n];
+
+    GC_register_finalizer(objects[n], 0, 0, 0, 0);
+    GC_free(objects[n]);
+    objects[n] = 0;
+    return hidden;
+}
+
+/* The large object behind that one. */
+APART static unsigned neighbour(uintptr_t hidden)
+{
+    unsigned n = 0;
+
+    while (n < LARGE && (!objects[n] || (uintptr_t)objects[n] - ~hidden != 2 * HBLKSIZE))
+        n++;
+    return n;
+}
+
+/* Of a region whose last object was freed a pass asks once more, if all others stay. */
+APART static void asks_of(const char *what, unsigned others)
+{
     collect();
     regions = 0;
     collect();
-    wrong += regions > 1;
-    printf("freed: asked about %s, wrong %u\n", regions > 1 ? "others" : "what stays", wrong);
+    wrong += regions > others;
+    printf("%s: asked about %s, wrong %u\n", what, regions > others ? "others" : "what stays", wrong);
+}
+
+/* Large objects that were marked in a collection and are freed: one between others, whose block is free then, and the one behind it, which joins that. */
+APART static void free_some(void)
+{
+    unsigned beside;
+
+    make_large();
+    collect();
+    beside = neighbour(free_large(LARGE / 2));
+    asks_of("freed", LARGE - 1);
+    wrong += beside == LARGE;
+    if (beside < LARGE)
+        (void)free_large(beside);
+    asks_of("one more", LARGE - 2);
 }
 
 /* Registers the object, in the place of what it has, and without data or with data that nothing else leads to. */
@@ -150,7 +174,9 @@ int main(void)
     tell("all at the end", 0, GRANULES_TO_BYTES(waited));
     drop(0, OBJECTS);
     collect();
-    free_all(&objects[0]);
+    free_some();
+    drop(0, LARGE);
+    collect();
     retain_data(&objects[1], calloc(1, sizeof(void *)));
     return 0;
 }

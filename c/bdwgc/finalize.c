@@ -213,7 +213,7 @@ static void *reallocate(void *nothing, void *memory, size_t size)
 
 static derrimas_finalizers finalizers; /* opened by the first registration or link; until then all calls are refused, and nothing stands */
 
-/* Marks of objects by their index say nothing of places: then the library asks of each object by itself. */
+/* Marks of objects by their index say nothing of places: then the library asks of each object and each word by itself. */
 #ifdef MARK_BIT_PER_OBJ
 #define HAS_MARKS false
 #else
@@ -222,7 +222,7 @@ static derrimas_finalizers finalizers; /* opened by the first registration or li
 
 static GC_bool is_open(void)
 {
-    static const derrimas_finalizers_options options = {sizeof options, {allocate, reallocate, release, NULL}, HAS_MARKS};
+    static const derrimas_finalizers_options options = {sizeof options, {allocate, reallocate, release, NULL}, HAS_MARKS, HAS_MARKS};
     static GC_bool opened;
 
     if (!opened)
@@ -542,7 +542,7 @@ static bool ring_child(void *from, uint64_t object, uint64_t n, uint64_t *link, 
     if (n >= scanned_words(HDR(SHOW(object))))
         return false;
     target = pointed(*at);
-    *link = HIDE(at);
+    *link = 0; /* so it counts: the short links that are left count, and the collector scans the words of ephemerons with their objects */
     *child = target ? HIDE(target) : 0;
     return true;
 }
@@ -743,13 +743,40 @@ GC_INLINE uint64_t marks_in(struct lookup *last, ptr_t first)
     return marks_from(header, BYTES_TO_GRANULES(first - (ptr_t)last->block));
 }
 
-static void answer_marks(derrimas_question *question)
+/* So many ones, from the lowest bit on. */
+GC_INLINE uint64_t ones(word count) { return count < 64 ? (UINT64_C(1) << count) - 1 : ~UINT64_C(0); }
+
+/* For 64 granules of a block of small objects, from one on, whether the objects are marked that have them. An object has its mark at its first granule, and what
+ * lies behind the last object of a block has one at its first, too. */
+GC_INLINE uint64_t live_from(const hdr *header, word granule)
+{
+    const word size = BYTES_TO_GRANULES(header->hb_sz), before = granule % size;
+    const uint64_t first = before > 0 && mark_bit_from_hdr(header, granule - before) ? ones(size - before) : 0;
+
+    return marks_from(header, granule) * ones(size) | first;
+}
+
+/* The word of a region of words. Where it isn't in a block of small objects, it lies in one object up to the end of that, and behind it in none. */
+GC_INLINE uint64_t live_in(struct lookup *last, ptr_t first)
+{
+    const hdr *header = header_of(last, first);
+
+    if (!IS_FORWARDING_ADDR_OR_NIL(header) && !HBLK_IS_FREE(header) && header->hb_sz <= MAXOBJBYTES)
+        return live_from(header, BYTES_TO_GRANULES(first - (ptr_t)last->block));
+    if (holder_is_marked(last, first))
+        return ~UINT64_C(0);
+    return ~ones(BYTES_TO_GRANULES(last->holder + last->size + GRANULE_BYTES - 1 - first));
+}
+
+/* The words of all regions of a question. Each of its uses is a loop of its own. */
+__attribute__((always_inline)) GC_INLINE uint64_t words(derrimas_question *question, uint64_t (*word_in)(struct lookup *, ptr_t))
 {
     struct lookup last = {NULL, NULL, NULL, 0, false};
     uint64_t i;
 
     for (i = 0; i < question->count; i++)
-        question->marks[i] = marks_in(&last, SHOW(question->what[i]));
+        question->marks[i] = word_in(&last, SHOW(question->what[i]));
+    return 0;
 }
 
 /* The answers about all objects or words of a question. Each of its uses is a loop of its own. */
@@ -781,8 +808,9 @@ static uint64_t answers_to(derrimas_question *question)
     case DERRIMAS_ASK_HOLDER_IS_MARKED:
         return each(question, holder_is_marked);
     case DERRIMAS_ASK_MARKS:
-        answer_marks(question);
-        return 0;
+        return words(question, marks_in);
+    case DERRIMAS_ASK_LIVE:
+        return words(question, live_in);
     case DERRIMAS_ASK_MARK_VALUE:
         return each(question, mark_value);
     }

@@ -127,7 +127,7 @@ static unsigned run_ours(void)
 
 int main(void)
 {
-    static const derrimas_finalizers_options options = {sizeof options, {allocate, reallocate, release, &own}, false};
+    static const derrimas_finalizers_options options = {sizeof options, {allocate, reallocate, release, &own}, false, false};
     void **words;
 
     alarm(LIMIT);

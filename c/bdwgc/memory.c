@@ -33,7 +33,7 @@ derrimas_finalizers_code __wrap_derrimas_finalizers_open(derrimas_finalizers *fi
     own = options->allocator;
     between.allocator.allocate = allocate;
     between.allocator.reallocate = reallocate;
-    between.marks = false; /* a registration that lacks memory for its region alone is accepted */
+    between.marks = between.live = false; /* a registration or a link that lacks memory for its region alone is accepted */
     return __real_derrimas_finalizers_open(finalizers, &between);
 }
 
@@ -159,7 +159,7 @@ static void lose_none(void)
 
 /* ---- bdwgc's own allocator */
 
-enum { BLOCKS = 600, SMALL = 2048, MOST = 5000, CHANGES = 100000, PAGE = 4096 };
+enum { BLOCKS = 3000, SMALL = 2048, MOST = 5000, CHANGES = 100000, PAGE = 4096 };
 
 static struct block {
     unsigned char *at, with;

@@ -1,20 +1,29 @@
-/* regions: objects of all sizes with finalizers, some of which go in each round, in blocks of one size and in large ones. Each finalizer that is due runs once,
- * and none of an object that stays. What is gone leaves blocks that are free, or that have objects of another size in the next round.
+/* regions: objects of all sizes with finalizers and with words that have links, some of which go in each round, in blocks of one size and in large ones. Each finalizer
+ * that is due runs once, and none of an object that stays. A word that has a link is cleared once its target has gone, and not before; links from objects that are
+ * gone are gone too. What is gone leaves blocks that are free, or that have objects of another size in the next round.
  */
 #include "graph.h"
 
-enum { OBJECTS = 3000, ROUNDS = 8, SIZES = 14, SMALL = 9, FEW = 20, PROCESSES = 4 };
+enum { OBJECTS = 3000, ROUNDS = 8, SIZES = 15, SMALL = 9, FEW = 20, PROCESSES = 4, PAIR = 8184 };
 
-static const size_t sizes[SIZES] = {8, 24, 40, 56, 72, 104, 1000, 1016, 1032, 2040, 4000, 4088, 8200, 100000}; /* in bdwgc at least a byte more */
+static const size_t sizes[SIZES] = {8, 24, 40, 56, 72, 104, 1000, 1016, 1032, 2040, 4000, 4088, PAIR, 8200, 100000}; /* in bdwgc at least a byte more, so one has two whole blocks */
 
 /* The objects that stay are a root. What is known of each that ever was isn't scanned: its address is hidden. */
 static void **objects;
 static unsigned *number; /* of the object at each place of the root */
 static struct known {
     uintptr_t hidden;
-    bool is_registered, is_due; /* due: it went with a finalizer, which hasn't run */
+    size_t size;
+    bool is_registered, is_due, is_gone; /* due: it went with a finalizer, which hasn't run */
 } *known;
-static unsigned made, due, ran, wrong, round_now;
+
+/* The link from a word of the object at each place of the root, if there is one. Objects aren't scanned. */
+static struct link {
+    size_t word;
+    unsigned target; /* its number */
+    bool is_there, is_long;
+} *links;
+static unsigned made, due, ran, wrong, round_now, without_links;
 
 static void note(void *object, void *cd)
 {
@@ -25,6 +34,9 @@ static void note(void *object, void *cd)
     ran++;
 }
 
+static void **word_of(unsigned n, size_t word) { return (void **)objects[n] + word; }
+static size_t some_word(unsigned n) { return chance(2) ? 0 : chance((unsigned)(known[number[n]].size / sizeof(void *))); }
+
 /* In the place of each object that is gone there is a new one. Of some others the finalizer is removed, or given again. */
 APART static void make(void)
 {
@@ -33,7 +45,8 @@ APART static void make(void)
         if (!objects[n]) {
             number[n] = made++;
             it = &known[number[n]];
-            objects[n] = GC_MALLOC_ATOMIC(sizes[chance(chance(6) ? SMALL : SIZES)]);
+            it->size = chance(8) ? sizes[chance(chance(6) ? SMALL : SIZES)] : PAIR;
+            objects[n] = GC_MALLOC_ATOMIC(it->size);
             it->hidden = ~(uintptr_t)objects[n];
         } else if (chance(4)) {
             continue;
@@ -43,26 +56,101 @@ APART static void make(void)
     }
 }
 
+/* From some objects that have none there are links to others. A word that has one already would be that of an object that is gone. */
+APART static void link_some(void)
+{
+    for (unsigned n = 0; n < OBJECTS; n++) {
+        const unsigned other = chance(OBJECTS);
+
+        if (links[n].is_there || chance(2))
+            continue;
+        links[n] = (struct link){some_word(n), number[other], true, chance(2)};
+        *word_of(n, links[n].word) = objects[other];
+        wrong += (links[n].is_long ? GC_register_long_link : GC_general_register_disappearing_link)(word_of(n, links[n].word), objects[other]) != GC_SUCCESS;
+    }
+}
+
+/* Some links are removed, and some are moved to words of objects that have none. */
+APART static void move_some(void)
+{
+    for (unsigned n = 0; n < OBJECTS; n++) {
+        const unsigned to = chance(OBJECTS);
+        const struct link it = links[n];
+
+        if (!it.is_there || chance(4))
+            continue;
+        if (chance(4) == 0) {
+            wrong += !(it.is_long ? GC_unregister_long_link : GC_unregister_disappearing_link)(word_of(n, it.word));
+            links[n].is_there = false;
+        } else if (!links[to].is_there) {
+            links[to] = (struct link){some_word(to), it.target, true, it.is_long};
+            links[n].is_there = false;
+            *word_of(to, links[to].word) = *word_of(n, it.word);
+            wrong += (it.is_long ? GC_move_long_link : GC_move_disappearing_link)(word_of(n, it.word), word_of(to, links[to].word)) != GC_SUCCESS;
+        }
+    }
+}
+
 /* Few objects or many, and all of some parts. */
 APART static void drop(void)
 {
     for (unsigned n = 0; n < OBJECTS; n++)
         if (chance(round_now % 3 ? 2 : 8) == 0 || (n / 64 % 3 == 0 && round_now % 2)) {
             objects[n] = NULL;
+            links[n].is_there = false;
+            known[number[n]].is_gone = true;
             known[number[n]].is_due = known[number[n]].is_registered;
             due += known[number[n]].is_registered;
         }
 }
 
+/* How many links there are. A word is cleared whose target is gone, unless something on the stack looks like it; and no other word is. */
+APART static unsigned linked(unsigned *left)
+{
+    unsigned count = 0;
+
+    *left = 0;
+    for (unsigned n = 0; n < OBJECTS; n++) {
+        const struct known *target = &known[links[n].target];
+
+        if (!links[n].is_there)
+            continue;
+        wrong += !target->is_gone && *word_of(n, links[n].word) != (void *)~target->hidden;
+        *left += target->is_gone && *word_of(n, links[n].word);
+        links[n].is_there = *word_of(n, links[n].word) != NULL;
+        count += links[n].is_there;
+    }
+    return count;
+}
+
+/* How many finalizers are registered. */
+static unsigned registered(void)
+{
+    unsigned count = 0;
+
+    for (unsigned n = 0; n < OBJECTS; n++)
+        count += objects[n] && known[number[n]].is_registered;
+    return count;
+}
+
+static bool is_about(unsigned found, unsigned wanted) { return found <= wanted + FEW && found + FEW >= wanted; }
+
 static void play(void)
 {
     for (round_now = 0; round_now < ROUNDS; round_now++) {
+        unsigned left, lines;
+
         make();
+        link_some();
+        move_some();
         drop();
         collect();
         (void)GC_invoke_finalizers();
         collect(); /* what was finalized is reclaimed */
-        printf("round %u: %s ran, wrong %u\n", round_now, ran <= due && ran + FEW >= due ? "those that were due" : "others", wrong);
+        (void)GC_invoke_finalizers();
+        lines = without_links + linked(&left) + registered();
+        printf("round %u: %s ran, links %s, %s, wrong %u\n", round_now, ran <= due && ran + FEW >= due ? "those that were due" : "others", left <= FEW ? "cleared" : "left",
+               is_about(dumped_lines(), lines) ? "of what stays" : "others too", wrong);
     }
 }
 
@@ -74,7 +162,9 @@ int main(void)
     GC_disable();
     objects = GC_MALLOC_UNCOLLECTABLE(OBJECTS * sizeof *objects);
     number = calloc(OBJECTS, sizeof *number);
+    links = calloc(OBJECTS, sizeof *links);
     known = calloc(OBJECTS * ROUNDS, sizeof *known);
+    without_links = dumped_lines();
     for (seed = 1; seed <= PROCESSES; seed++)
         in_a_process(play);
     return 0;

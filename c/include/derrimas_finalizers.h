@@ -35,15 +35,17 @@
  *   marked, and a new object of the same number would inherit them. A pass that ends leaves none of these of an object that
  *   it left unmarked.
  *
- * Only derrimas_finalizers_open, .._reserve, .._shrink, .._register, .._link, .._ephemeron, .._add_cleanup, .._why and
- * .._stuck allocate, by the handle's allocator; only these and .._destroy free. All other calls may be made while other
- * threads are stopped at any place. .._reserve allocates beforehand, except for ephemerons and cleanups. A registration
+ * Only derrimas_finalizers_open, .._reserve, .._shrink, .._register, .._link, .._ephemeron, .._add_cleanup, .._why,
+ * .._stuck and, with the option `live`, .._move_link allocate, by the handle's allocator; only these and .._destroy free.
+ * All other calls may be made while other threads are stopped at any place. .._reserve allocates beforehand, except for
+ * ephemerons and cleanups. A registration
  * that replaces another takes no room, even if its kind differs. Each new registration and each cleanup takes room for
  * its entry, and each ephemeron for a pass, so that a pass, a take and a move never need memory; so a cleanup uses up the
  * room that was reserved for one registration. If the list that a pass processes has no room left, .._register, .._link,
- * .._ephemeron and .._add_cleanup enlarge it, even if they replace something or are refused. With the option `marks`
- * .._register may also allocate for the object's region, even if room is reserved; if that fails the call is accepted
- * nevertheless, and later passes ask about each object, until .._shrink finds memory for the regions.
+ * .._ephemeron and .._add_cleanup enlarge it, even if they replace something or are refused. With the options `marks` and
+ * `live` .._register, .._link, .._move_link and .._add_cleanup may also allocate for a region, even if room is reserved; if
+ * that fails the call is accepted nevertheless, and later passes ask about each object or word of this sort by itself,
+ * until .._shrink finds memory for the regions.
  *
  * A call uses at most 16 KB of the stack, besides what the host's functions use.
  *
@@ -114,12 +116,14 @@ typedef derrimas_link_answer derrimas_finalizers_linked;
 
 /* What a handle is opened with. `size` is sizeof(derrimas_finalizers_options), by which the library knows which fields
  * there are; those that a smaller struct of an older header lacks are 0. Either all three functions of the allocator are
- * given, or none, and then memory is the C library's. With `marks` a pass asks about registered objects by regions, with
- * DERRIMAS_ASK_MARKS: for a host whose marks of neighbouring objects lie together, so that one word has those of many. */
+ * given, or none, and then memory is the C library's. With `marks` a pass asks about registered objects, targets of links
+ * and objects of cleanups by regions, with DERRIMAS_ASK_MARKS: for a host whose marks of neighbouring objects lie together,
+ * so that one word has those of many. With `live` it asks by regions whether the objects that have the words of links are
+ * marked, with DERRIMAS_ASK_LIVE. Each may be chosen without the other. */
 typedef struct derrimas_finalizers_options {
     size_t size;
     derrimas_allocator allocator;
-    bool marks;
+    bool marks, live;
 } derrimas_finalizers_options;
 
 typedef struct derrimas_finalizers_entry derrimas_finalizers_entry;
@@ -142,14 +146,15 @@ typedef struct derrimas_finalizers_ages {
 } derrimas_finalizers_ages;
 
 /* The handle. Start it as {0}. There may be any number of them, each with its own memory. `waiting` is how many entries
- * wait, for derrimas_finalizers_has_waiting alone. `asks_marks` is the option `marks`, for derrimas_finalizers_pass alone. */
+ * wait, for derrimas_finalizers_has_waiting alone. `asks_marks` and `asks_live` are the options `marks` and `live`, for
+ * derrimas_finalizers_pass alone. */
 typedef struct derrimas_finalizers {
     void *inside;
     uint64_t waiting;
     derrimas_allocator allocator;
     const derrimas_trace *trace;
     derrimas_finalizers_ages ages;
-    bool asks_marks;
+    bool asks_marks, asks_live;
 } derrimas_finalizers;
 
 /* The procedure and the client data of a registration or a cleanup that was removed or replaced, and whether there was
@@ -207,19 +212,22 @@ typedef enum derrimas_ask {
     DERRIMAS_ASK_HOLDER_IS_MARKED = 7, /* is the object that has the word marked, or has no object the word? at the end of
                                         * a pass, if not, its link or ephemeron is removed, and the word stays as it is */
     DERRIMAS_ASK_MARKS = 8,            /* which objects are marked that begin in the region? only with the option `marks` */
+    DERRIMAS_ASK_LIVE = 9,             /* which places of the region lie in marked objects, or in none? only with the option
+                                        * `live` */
     DERRIMAS_ASK_MARK_VALUE = 10       /* mark the object to which the ephemeron's word points, if any, and all that it
-                                        * reaches: may something have been marked that wasn't? only if there are ephemerons;
-                                        * 9 is no question */
+                                        * reaches: may something have been marked that wasn't? only if there are ephemerons */
 } derrimas_ask;
 
 /* A question about `count` objects, words or regions, 1 to DERRIMAS_FINALIZERS_BATCH, to be answered or carried out one
  * after another; the places after them are undefined. For IS_MARKED, HOLDER_IS_MARKED and MARK_VALUE bit i of the answers,
  * counted from the lowest, is the answer about what[i]. To say 1 of MARK_VALUE is always right; 0 says that all was marked
- * before. For the others the answers are ignored. MARKS alone is answered in `marks`, which nothing else reads or writes.
- * what[j] is where a region begins, which has 64 places, 16 apart. Bit i of marks[j] says whether the object that begins at
- * what[j] + 16 * i is marked. If none begins at a place, its bit may have any value. For a region whose memory is freed give 0.
- * An object that begins off the multiples of 16 is in a region that does so too, so what[j] need be no object and no multiple
- * of 16, and may be 0. */
+ * before. For the others the answers are ignored. MARKS and LIVE are answered in `marks`, which nothing else reads or writes.
+ * what[j] is where a region begins, which has 64 places, 16 apart. For MARKS bit i of marks[j] says whether the object that
+ * begins at what[j] + 16 * i is marked. If none begins at a place, its bit may have any value. For a region whose memory is
+ * freed give 0. For LIVE bit i of marks[j] is what HOLDER_IS_MARKED would answer about the word with the number
+ * what[j] + 16 * i: so it is 1 if no object has the word. If no link has a word at a place, its bit may have any value. A
+ * number off the multiples of 16 is in a region that begins off them too, so what[j] need be no object, no word and no
+ * multiple of 16, and may be 0. */
 typedef struct derrimas_question {
     uint64_t what[DERRIMAS_FINALIZERS_BATCH];
     uint64_t count;
@@ -230,8 +238,8 @@ typedef struct derrimas_question {
 /* ---- opening */
 
 /* Opens a handle: nothing is registered. The options are copied. They may be NULL, which is the same as 0 in all fields
- * after the size: then memory is the C library's, by malloc, realloc and free, and a pass asks about each object by
- * itself. It takes memory.
+ * after the size: then memory is the C library's, by malloc, realloc and free, and a pass asks about each object and each
+ * word by itself. It takes memory.
  * Refused: BAD_PROCESSOR, BAD_OPTIONS, IS_OPEN, NO_MEMORY. */
 DERRIMAS_CHECKED derrimas_finalizers_code derrimas_finalizers_open(derrimas_finalizers *finalizers,
                                                                    const derrimas_finalizers_options *options)
@@ -241,8 +249,8 @@ DERRIMAS_CHECKED derrimas_finalizers_code derrimas_finalizers_open(derrimas_fina
 void derrimas_finalizers_destroy(derrimas_finalizers *finalizers) DERRIMAS_NONNULL(1);
 
 /* Makes room for the given numbers of further registrations and links: until the room is used up no calls but
- * .._ephemeron and .._add_cleanup take memory, and with the option `marks` .._register for a new region. It takes memory
- * itself, and time proportional to the room.
+ * .._ephemeron and .._add_cleanup take memory, but for new regions. It takes memory itself, and time proportional to the
+ * room.
  * Refused: NOT_OPEN, PASS_OPEN, NO_MEMORY. */
 DERRIMAS_CHECKED derrimas_finalizers_code derrimas_finalizers_reserve(derrimas_finalizers *finalizers,
                                                                       uint64_t registrations, uint64_t shorts, uint64_t longs)
@@ -250,9 +258,9 @@ DERRIMAS_CHECKED derrimas_finalizers_code derrimas_finalizers_reserve(derrimas_f
 
 /* Frees the memory that registrations, links, ephemerons, cleanups and unfinished entries don't need, reserved room
  * included. If the allocator has no memory for a smaller table, the old one stays. No other call but .._destroy does
- * this. With the option `marks` it notes the registered objects again, if there is memory for their regions: the regions
- * of removed registrations are forgotten, and passes ask by regions again if memory for one had been lacking. Takes time
- * proportional to what there is.
+ * this. With the options `marks` and `live` it notes again all that passes ask about by regions, if there is memory for
+ * these: the regions of what was removed are forgotten, and passes ask by regions again if memory for one had been lacking.
+ * Takes time proportional to what there is.
  * Refused: NOT_OPEN, PASS_OPEN. */
 derrimas_finalizers_code derrimas_finalizers_shrink(derrimas_finalizers *finalizers) DERRIMAS_NONNULL(1);
 
@@ -291,8 +299,9 @@ derrimas_finalizers_code derrimas_finalizers_unlink(derrimas_finalizers *finaliz
                                                     uint64_t word, bool *was) DERRIMAS_NONNULL(1);
 
 /* Moves the link of this kind from the word to the word `to`. *answer, which may be NULL, is LINKED, also if both are the
- * same; or NOT_FOUND or DUPLICATE, and then nothing changed. It takes no memory. A single move may rebuild the table, in
- * the memory that it has, which takes time proportional to the links of the kind.
+ * same; or NOT_FOUND or DUPLICATE, and then nothing changed. It takes no memory, but for a new region with the option
+ * `live`. A single move may rebuild the table, in the memory that it has, which takes time proportional to the links of the
+ * kind.
  * Refused: BAD_KIND, NOT_OPEN, PASS_OPEN, ZERO (of `to`). */
 derrimas_finalizers_code derrimas_finalizers_move_link(derrimas_finalizers *finalizers, derrimas_finalizers_link_kind kind,
                                                        uint64_t word, uint64_t to, derrimas_finalizers_linked *answer)
@@ -351,24 +360,26 @@ derrimas_finalizers_code derrimas_finalizers_next_number(const derrimas_finalize
 /* ---- a pass, by questions and answers */
 
 /* Opens a pass, once the host's marking is done. Until its end entries may be taken and finished; all other changes are
- * refused with PASS_OPEN. Takes time proportional to the cleanups, of which it sorts the SHORT ones.
+ * refused with PASS_OPEN. Takes time proportional to the ephemerons.
  * Refused: NOT_OPEN, PASS_OPEN. */
 derrimas_finalizers_code derrimas_finalizers_begin(derrimas_finalizers *finalizers) DERRIMAS_NONNULL(1);
 
 /* Opens a pass that looks only at registrations and cleanups whose numbers are at least `from`, for a young collection of a
  * host with generations. If the objects of all others are marked, it is the same pass as one that .._begin opens. `from` is
  * what .._next_number told when the objects that are old now were the newest. If an object before it isn't marked, the pass
- * doesn't ask about it, and its registration or cleanup stays; but with the option `marks` a pass comes to all registrations.
- * Links and ephemerons are looked at as in any pass. The tables of registrations and cleanups are walked over still.
+ * doesn't ask about it, and its registration or cleanup stays; a question about a region asks about all its places. Links and
+ * ephemerons are looked at as in any pass. The tables of registrations and cleanups are walked over as in any pass.
  * Refused: NOT_OPEN, PASS_OPEN. */
 derrimas_finalizers_code derrimas_finalizers_begin_from(derrimas_finalizers *finalizers, uint64_t from) DERRIMAS_NONNULL(1);
 
 /* Takes the answers to the question before (at first any), and puts the next question into *question. If the question
- * before was MARKS, its answers are in question->marks. EMPTY: there is none, and the pass has ended; what it did is in
+ * before was MARKS or LIVE, its answers are in question->marks. EMPTY: there is none, and the pass has ended; what it did is in
  * *passed, which may be NULL. A pass takes time proportional to the registrations, the links and the cleanups, and sorts
  * the unmarked objects and the cleanups; a single call may take as much when the pass goes on to another list. With the
- * option `marks` it takes time proportional to the regions of registered objects and to the unmarked objects, and not to
- * the registrations. Four times it asks about each ephemeron, and then in rounds, as long as values are marked, about those
+ * options `marks` and `live` a pass asks about the regions of a list first: of the registered objects, of the targets or the
+ * words of links of a kind, of the objects of cleanups of a moment. If all that is noted there is marked, this takes time
+ * proportional to the regions, and not to the list. Otherwise the pass walks over the list too, and sorts or asks about only
+ * what isn't marked. Four times it asks about each ephemeron, and then in rounds, as long as values are marked, about those
  * that still wait for their keys or objects. A chain of n ephemerons, the value of each of which reaches the key of the next,
  * takes n rounds: so n ephemerons take at most time proportional to the square of n. A host that makes the next call has
  * rounds about those whose keys were marked.
@@ -510,9 +521,11 @@ derrimas_finalizers_code derrimas_finalizers_cleanups(const derrimas_finalizers 
 /* ---- why an object isn't finalized */
 
 /* Why an object isn't finalized, or that it is ready. Each object of a path is one to which a word of the object before
- * points. First steps are those that kinds count: of IGNORE_SELF no word that points to the object itself, and of NO_ORDER
- * none, but all of them towards an object of kind UNREACHABLE. Words count as they are once a pass has cleared those of
- * short links to unreachable targets. */
+ * points, or the value of an ephemeron: then the object before is the key, or the object that has the word, and the other
+ * of these two is retained by the same roots, or waits for the same objects. First steps are those that kinds count: of
+ * IGNORE_SELF no word that points to the object itself, and of NO_ORDER none; towards an object of kind UNREACHABLE all
+ * steps of objects of other kinds count. Words and ephemerons count as they are once a pass has cleared those of short
+ * links and short ephemerons whose targets and keys aren't found. */
 typedef enum derrimas_why_reason {
     DERRIMAS_WHY_UNREGISTERED = 0, /* it has no finalizer, and no entry */
     DERRIMAS_WHY_QUEUED = 1,       /* its entry waits or is held */
@@ -520,7 +533,7 @@ typedef enum derrimas_why_reason {
     DERRIMAS_WHY_WAITS = 3,        /* it is unreachable and on no ring: the path goes from another such object with a
                                     * finalizer, by a first step, to it, and that one comes first */
     DERRIMAS_WHY_RING = 4,         /* it is unreachable: the path goes from it, by a first step, back to it, so no pass
-                                    * queues it as long as the words on the path stay */
+                                    * queues it as long as the words and ephemerons on the path stay, with their keys */
     DERRIMAS_WHY_READY = 5         /* the next pass queues it, if nothing changes before */
 } derrimas_why_reason;
 
@@ -546,8 +559,10 @@ typedef struct derrimas_why {
 /* How a host lists its heap, as it is when nothing is cleared. Nothing has to be marked. The functions are called with
  * `data` first; n counts from 0 on until they return false. They make no call that changes the handle, and return.
  * - child: the n-th word of an object that may point to another. *child is the object to which it points, or 0. *word is
- *   the word's number, by which .._link makes a link of it, or 0 if it is never one's. An object with n words takes the n
- *   numbers from its own on, and at least one, and no two objects share one. No object takes 2^64 - 1.
+ *   the word's number, by which .._link or .._ephemeron makes a link or an ephemeron of it, or 0 if it is never one's. The
+ *   words of ephemerons are listed, too: the library knows which they are, and takes it that the host doesn't mark by them.
+ *   Of an object that isn't scanned *child is 0 for each other word. An object with n words takes the n numbers from its own
+ *   on, and at least one, and no two objects share one. No object takes 2^64 - 1.
  * - root: *root is the object to which the n-th root of the host's points, or 0. The finalizers' own are known.
  * - is_object: whether client data is the number of an object. It may be NULL: then none is. An object that is client data
  *   is reachable by it, as for a host that marks what all three sorts of derrimas_finalizers_roots yield. */
@@ -559,17 +574,19 @@ typedef struct derrimas_paths {
 
 /* Says in *why why an object isn't finalized. The buffer `path`, which has `room` places and may be NULL if `room` is 0,
  * gets the first objects of the path that is the evidence, as many as fit. The object may be any number; registered
- * objects and the targets of short links are the host's objects. It changes nothing. By the handle's allocator it takes
- * memory for each word of the objects that roots, registered objects and short links reach, and frees it again. It takes
- * time proportional to these words, registrations and links. Values of ephemerons don't count, unless `child` lists their
- * words: an object that only such a value retains, or that waits for one, is described as if there were no ephemerons.
+ * objects, the targets of short links and the keys of short ephemerons are the host's objects. It changes nothing. By the
+ * handle's allocator it takes memory for each word of the objects that roots, registered objects, short links and short
+ * ephemerons reach, values included, and frees it again. It takes time proportional to these words, registrations and
+ * links, and looks at the ephemerons in rounds, as a pass does. An ephemeron whose word `child` doesn't list, as one that
+ * lies in no object, is taken to have no value.
  * Refused: NOT_OPEN, PASS_OPEN; OVERLAP, NO_MEMORY, whichever comes first. */
 DERRIMAS_CHECKED derrimas_finalizers_code derrimas_finalizers_why(derrimas_finalizers *finalizers, uint64_t object,
                                                                   const derrimas_paths *paths, void *data, derrimas_why *why,
                                                                   uint64_t *path, size_t room) DERRIMAS_NONNULL(1, 3, 5);
 
-/* Lists the registered objects that wait for a ring: those of which .._why says RING, and those to which the path of a ring
- * leads on. No pass queues them as long as their words and registrations stay. Each is listed once, in the order of
+/* Lists the registered objects that wait for a ring: those of which .._why says RING, and those to which the paths of rings
+ * lead on, also together, by a key and by a word of one ephemeron. No pass queues them as long as their words, ephemerons
+ * and registrations stay, and keys that are reachable stay so. Each is listed once, in the order of
  * .._registrations. The buffer `objects`, which has `room` places and may be NULL where `room` is 0, gets the first of
  * them, as many as fit; *count is how many there are. It changes nothing, and takes the memory of .._why; it takes the time
  * of .._why for each unreachable registered object.
@@ -608,12 +625,13 @@ const char *derrimas_finalizers_reason_name(derrimas_why_reason reason);
 
 /* A host: what it does for each question. `data` is what derrimas_finalizers_pass was given. What is promised of a pass
  * holds if there are a graph and a set of marked objects such that: is_marked says whether the object is in the set; so
- * does each bit of marks, about the object that begins at its place; the three marks add to the set what the questions
- * say, or more; nothing else changes the set in the pass; and at the beginning and after each mark the set has all that
- * its objects reach. With but_itself, mark_children passes over words that point to the object itself. marks returns the
- * word of the region that begins at `first`; it is NULL in a host that doesn't open with the option `marks`. mark_value
- * returns whether something may have been marked that wasn't; it is NULL in a host without ephemerons. Words of ephemerons
- * aren't among the words by which an object reaches another. */
+ * does each bit of marks, about the object that begins at its place; each bit of live is what holder_is_marked says of the
+ * number of its place; the three marks add to the set what the questions say, or more; nothing else changes the set in the
+ * pass; and at the beginning and after each mark the set has all that its objects reach. With but_itself, mark_children
+ * passes over words that point to the object itself. marks and live return the word of the region that begins at `first`;
+ * each is NULL in a host that doesn't open with the option of its name. mark_value returns whether something may have been
+ * marked that wasn't; it is NULL in a host without ephemerons. Words of ephemerons aren't among the words by which an object
+ * reaches another. */
 typedef struct derrimas_host {
     bool (*is_marked)(void *data, uint64_t object);
     void (*mark_children)(void *data, uint64_t object, bool but_itself);
@@ -622,10 +640,11 @@ typedef struct derrimas_host {
     void (*clear)(void *data, uint64_t word);
     bool (*holder_is_marked)(void *data, uint64_t word);
     uint64_t (*marks)(void *data, uint64_t first);
+    uint64_t (*live)(void *data, uint64_t first);
     bool (*mark_value)(void *data, uint64_t word);
 } derrimas_host;
 
-/* Answers a question by the host's procedures: MARKS in question->marks, the others by what is returned. */
+/* Answers a question by the host's procedures: MARKS and LIVE in question->marks, the others by what is returned. */
 static inline uint64_t derrimas_host_answers(const derrimas_host *host, void *data, derrimas_question *question)
 {
     uint64_t answers = 0;
@@ -643,6 +662,7 @@ static inline uint64_t derrimas_host_answers(const derrimas_host *host, void *da
         case DERRIMAS_ASK_CLEAR: host->clear(data, what); break;
         case DERRIMAS_ASK_HOLDER_IS_MARKED: answers |= (uint64_t)host->holder_is_marked(data, what) << i; break;
         case DERRIMAS_ASK_MARKS: question->marks[i] = host->marks(data, what); break;
+        case DERRIMAS_ASK_LIVE: question->marks[i] = host->live(data, what); break;
         case DERRIMAS_ASK_MARK_VALUE: answers |= (uint64_t)host->mark_value(data, what) << i; break;
         }
     }
@@ -654,7 +674,7 @@ static inline bool derrimas_host_is_whole(const derrimas_host *host, const derri
 {
     derrimas_finalizers_counts counts;
 
-    if (finalizers->asks_marks && !host->marks)
+    if ((finalizers->asks_marks && !host->marks) || (finalizers->asks_live && !host->live))
         return false;
     return host->mark_value || derrimas_finalizers_count(finalizers, &counts) != DERRIMAS_FINALIZERS_OK
            || counts.short_ephemerons + counts.long_ephemerons == 0;
@@ -663,9 +683,9 @@ static inline bool derrimas_host_is_whole(const derrimas_host *host, const derri
 /* A whole pass, driven by the procedures of a host, which looks only at registrations and cleanups whose numbers are at least
  * `from`: .._begin_from says which that may be. They may make the calls that take a const handle, and mark_value may call
  * derrimas_finalizers_key_marked; they must return.
- * *passed, which may be NULL, is what it did. BAD_OPTIONS: the handle was opened with the option `marks`, and the host has
- * no `marks`; is_marked can't be asked instead, since there may be no object at a place of a region. Or there are
- * ephemerons, and the host has no mark_value.
+ * *passed, which may be NULL, is what it did. BAD_OPTIONS: the handle was opened with the option `marks` or `live`, and the
+ * host has no function of this name; is_marked can't be asked instead, since there may be no object at a place of a region.
+ * Or there are ephemerons, and the host has no mark_value.
  * Refused: BAD_OPTIONS, NOT_OPEN, PASS_OPEN. */
 static inline derrimas_finalizers_code derrimas_finalizers_pass_from(derrimas_finalizers *finalizers, uint64_t from,
                                                                      const derrimas_host *host, void *data,

@@ -89,10 +89,10 @@ public:
     };
 
     finalizers() { check(derrimas_finalizers_open(&handle_, nullptr)); }
-    /* Opens with an allocator; {} is the C library's. With `marks` a pass asks about regions of objects. */
-    explicit finalizers(const allocator &memory, bool marks = false)
+    /* Opens with an allocator; {} is the C library's. With `marks` a pass asks about regions of objects, and with `live` about regions of words. */
+    explicit finalizers(const allocator &memory, bool marks = false, bool live = false)
     {
-        const derrimas_finalizers_options options = {sizeof options, memory, marks};
+        const derrimas_finalizers_options options = {sizeof options, memory, marks, live};
         check(derrimas_finalizers_open(&handle_, &options));
     }
     ~finalizers() { derrimas_finalizers_destroy(&handle_); }
@@ -211,7 +211,7 @@ public:
         open_pass &operator=(const open_pass &) = delete;
 
         /* Takes the answers to the question before, at first any, and returns whether there is a further one, which is in *question then. The answers to
-         * DERRIMAS_ASK_MARKS are in question->marks. */
+         * DERRIMAS_ASK_MARKS and DERRIMAS_ASK_LIVE are in question->marks. */
         bool next(std::uint64_t answers, question *question)
         {
             derrimas_finalizers_code code = derrimas_finalizers_next(handle_, answers, question, &did_);
@@ -236,13 +236,14 @@ public:
 
     /* A whole pass, whose questions the members of `host` answer and carry out: bool is_marked(object), mark_children(object, but_itself), mark(object),
      * mark_alone(object), clear(word), bool holder_is_marked(word). If one throws, the pass is abandoned. For finalizers that ask about regions the host has
-     * std::uint64_t marks(first) too, and for those with ephemerons bool mark_value(word); otherwise the pass is refused with BadOptions. */
+     * std::uint64_t marks(first) or live(first) too, and for those with ephemerons bool mark_value(word); otherwise the pass is refused with BadOptions. */
     template <typename Host> passed pass(Host &&host) { return pass_from(0, host); }
 
     /* The same, over the registrations and cleanups from a number on. */
     template <typename Host> passed pass_from(std::uint64_t from, Host &&host)
     {
-        if ((handle_.asks_marks && !has_marks<Host>::value) || (!has_mark_value<Host>::value && has_ephemerons()))
+        if ((handle_.asks_marks && !has_marks<Host>::value) || (handle_.asks_live && !has_live<Host>::value)
+            || (!has_mark_value<Host>::value && has_ephemerons()))
             throw refused(DERRIMAS_FINALIZERS_BAD_OPTIONS);
         open_pass open(*this, from);
         question question;
@@ -251,13 +252,15 @@ public:
         return open.did();
     }
 
-    /* The answers to a question by the members of a host. Those to DERRIMAS_ASK_MARKS are stored in question.marks. */
+    /* The answers to a question by the members of a host. Those to DERRIMAS_ASK_MARKS and DERRIMAS_ASK_LIVE are stored in question.marks. */
     template <typename Host> static std::uint64_t answers_of(Host &&host, question &question)
     {
         std::uint64_t answers = 0;
         for (std::uint64_t n = 0; n < question.count; n++)
             if (question.ask == DERRIMAS_ASK_MARKS)
                 question.marks[n] = marks_of(host, question.what[n]);
+            else if (question.ask == DERRIMAS_ASK_LIVE)
+                question.marks[n] = live_of(host, question.what[n]);
             else
                 answers |= static_cast<std::uint64_t>(answer_of(host, question.ask, question.what[n])) << n;
         return answers;
@@ -272,7 +275,7 @@ public:
         std::vector<std::uint64_t> path;
     };
 
-    /* A word of an object that may point to another: its number, or 0, and the object to which it points, or 0. */
+    /* A word of an object that may point to another, or that is an ephemeron: its number, or 0, and the object to which it points, or 0. */
     struct pointer {
         std::uint64_t word, child;
     };
@@ -551,6 +554,19 @@ private:
             throw refused(DERRIMAS_FINALIZERS_BAD_OPTIONS);
     }
 
+    /* The same of `live`. */
+    template <typename Host, typename = void> struct has_live : std::false_type {};
+    template <typename Host>
+    struct has_live<Host, std::void_t<decltype(std::declval<Host &>().live(std::uint64_t{}))>> : std::true_type {};
+
+    template <typename Host> static std::uint64_t live_of(Host &host, std::uint64_t first)
+    {
+        if constexpr (has_live<Host>::value)
+            return host.live(first);
+        else
+            throw refused(DERRIMAS_FINALIZERS_BAD_OPTIONS);
+    }
+
     /* The answer about one object or word; a command has none. */
     template <typename Host> static bool answer_of(Host &host, ask ask, std::uint64_t what)
     {
@@ -562,7 +578,7 @@ private:
         case DERRIMAS_ASK_MARK_ALONE: host.mark_alone(what); break;
         case DERRIMAS_ASK_CLEAR: host.clear(what); break;
         case DERRIMAS_ASK_HOLDER_IS_MARKED: return host.holder_is_marked(what);
-        case DERRIMAS_ASK_MARKS: break; /* answered by a word */
+        case DERRIMAS_ASK_MARKS: case DERRIMAS_ASK_LIVE: break; /* answered by a word */
         case DERRIMAS_ASK_MARK_VALUE: return value_marked(host, what);
         }
         return false;

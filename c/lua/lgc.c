@@ -123,7 +123,7 @@ static void release(void *of, void *memory)
 /* The state's finalizers, or NULL without memory. */
 static struct finalizing *opened(global_State *g)
 {
-    const derrimas_finalizers_options options = {sizeof options, {allocate, reallocate, release, g}, true};
+    const derrimas_finalizers_options options = {sizeof options, {allocate, reallocate, release, g}, true, false};
     struct finalizing *made;
 
     if (g->finalizing)
@@ -341,7 +341,7 @@ static void give_back(struct finalizing *of)
 /* All registrations are NO_ORDER, and there are no links, ephemerons or cleanups: a pass asks nothing else. */
 static void separatetobefnz(global_State *g, int all)
 {
-    static const derrimas_host host = {is_marked, NULL, mark, NULL, NULL, NULL, marks, NULL};
+    static const derrimas_host host = {is_marked, NULL, mark, NULL, NULL, NULL, marks, NULL, NULL};
 
     if (!g->finalizing)
         return;

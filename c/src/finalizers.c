@@ -163,7 +163,7 @@ static const derrimas_allocator libc = {allocate_by_libc, reallocate_by_libc, re
 
 /* ---- opening */
 
-/* The sizes of the options: that of now, and that of a header without `marks`. */
+/* The sizes of the options: that of now, and that of a header without `marks` and `live`. */
 enum { SIZE = sizeof(derrimas_finalizers_options), SIZE_WITHOUT_MARKS = offsetof(derrimas_finalizers_options, marks) };
 
 /* All functions, or none: then memory is the C library's. */
@@ -174,7 +174,7 @@ static bool is_whole(const derrimas_allocator *memory)
 
 code derrimas_finalizers_open(derrimas_finalizers *finalizers, const derrimas_finalizers_options *options)
 {
-    bool marks;
+    bool marks, live;
     code it;
 
     if (!is_right_processor())
@@ -182,11 +182,13 @@ code derrimas_finalizers_open(derrimas_finalizers *finalizers, const derrimas_fi
     if (options && ((options->size != SIZE && options->size != SIZE_WITHOUT_MARKS) || !is_whole(&options->allocator)))
         return DERRIMAS_FINALIZERS_BAD_OPTIONS;
     marks = options && options->size == SIZE && options->marks;
+    live = options && options->size == SIZE && options->live;
     current = options && options->allocator.allocate ? &options->allocator : &libc;
-    it = fz_machine_open(finalizers, marks);
+    it = fz_machine_open(finalizers, marks, live);
     if (it == DERRIMAS_FINALIZERS_OK) {
         finalizers->allocator = *current;
         finalizers->asks_marks = marks;
+        finalizers->asks_live = live;
     }
     return after_memory(it);
 }
@@ -201,7 +203,7 @@ void derrimas_finalizers_destroy(derrimas_finalizers *finalizers)
     finalizers->allocator = none.allocator;
     finalizers->trace = NULL;
     finalizers->ages = none.ages;
-    finalizers->asks_marks = false;
+    finalizers->asks_marks = finalizers->asks_live = false;
     set_waiting(finalizers, 0);
 }
 
@@ -286,7 +288,8 @@ code derrimas_finalizers_move_link(derrimas_finalizers *finalizers, derrimas_fin
 
     if (!is_links(kind))
         return DERRIMAS_FINALIZERS_BAD_KIND;
-    it = fz_machine_move_link(finalizers, kind == DERRIMAS_FINALIZERS_LONG, word, to, &found);
+    current = &finalizers->allocator;
+    it = after_memory(fz_machine_move_link(finalizers, kind == DERRIMAS_FINALIZERS_LONG, word, to, &found));
     return answered(it, found, answer);
 }
 

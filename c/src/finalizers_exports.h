@@ -60,7 +60,7 @@ typedef struct fz_machine_told {
     uint8_t reason, root;
 } fz_machine_told;
 
-uint8_t fz_machine_open(derrimas_finalizers *finalizers, bool marks);
+uint8_t fz_machine_open(derrimas_finalizers *finalizers, bool marks, bool live);
 void fz_machine_destroy(derrimas_finalizers *finalizers);
 uint8_t fz_machine_reserve(derrimas_finalizers *finalizers, uint64_t registrations, uint64_t shorts, uint64_t longs);
 uint8_t fz_machine_shrink(derrimas_finalizers *finalizers);
@@ -99,8 +99,8 @@ uint8_t fz_machine_why(derrimas_finalizers *finalizers, fz_snapshot *snapshot, u
 uint8_t fz_machine_stuck(derrimas_finalizers *finalizers, fz_snapshot *snapshot, uint64_t *count);
 uint8_t fz_snapshot_open(fz_snapshot *snapshot);
 void fz_snapshot_destroy(fz_snapshot *snapshot);
-uint8_t fz_snapshot_object(fz_snapshot *snapshot, uint64_t object, uint64_t value, uint64_t link);
-uint8_t fz_snapshot_word(fz_snapshot *snapshot, uint64_t word, uint64_t value, uint64_t link);
+uint8_t fz_snapshot_object(fz_snapshot *snapshot, uint64_t object, uint64_t value, uint64_t link, bool is_ephemeron);
+uint8_t fz_snapshot_word(fz_snapshot *snapshot, uint64_t word, uint64_t value, uint64_t link, bool is_ephemeron);
 uint8_t fz_snapshot_root(fz_snapshot *snapshot, uint64_t word);
 uint8_t fz_snapshot_holder(fz_snapshot *snapshot, uint64_t word, uint64_t *object);
 uint8_t fz_snapshot_step(fz_snapshot *snapshot, uint64_t index, uint64_t *object);

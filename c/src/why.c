@@ -56,13 +56,17 @@ static code list_later(walk *it, uint64_t object)
     return DERRIMAS_FINALIZERS_OK;
 }
 
-/* The n-th word of an object. Its number matters only where a short link has it. */
+/* The n-th word of an object. Its number matters only where a short link or an ephemeron has it. The object doesn't point by the word of an ephemeron. */
 static code list_word(walk *it, uint64_t object, uint64_t n, uint64_t word, uint64_t child)
 {
     uint64_t target;
-    const uint64_t link = word && fz_machine_target(it->finalizers, false, word, &target) == DERRIMAS_FINALIZERS_OK ? word : 0;
+    fz_machine_key_at key;
+    const bool is_linked = word && fz_machine_target(it->finalizers, false, word, &target) == DERRIMAS_FINALIZERS_OK;
+    const bool is_ephemeron = word && fz_machine_key(it->finalizers, word, &key) == DERRIMAS_FINALIZERS_OK;
+    const uint64_t link = is_ephemeron || is_linked ? word : 0;
 
-    return n == 0 ? BY_ALLOCATOR(it, fz_snapshot_object(&it->copy, object, child, link)) : BY_ALLOCATOR(it, fz_snapshot_word(&it->copy, object + n, child, link));
+    return n == 0 ? BY_ALLOCATOR(it, fz_snapshot_object(&it->copy, object, child, link, is_ephemeron))
+                  : BY_ALLOCATOR(it, fz_snapshot_word(&it->copy, object + n, child, link, is_ephemeron));
 }
 
 static code list_words(walk *it, uint64_t object)
@@ -163,6 +167,20 @@ static code list_targets(walk *it)
     return DERRIMAS_FINALIZERS_OK;
 }
 
+/* The keys of short ephemerons. */
+static code list_keys(walk *it)
+{
+    derrimas_finalizers_link_at some[PART];
+    uint64_t from = 0;
+    size_t count;
+
+    while (derrimas_finalizers_ephemerons(it->finalizers, DERRIMAS_FINALIZERS_SHORT, &from, some, PART, &count) == DERRIMAS_FINALIZERS_OK)
+        for (size_t n = 0; n < count; n++)
+            if (list_later(it, some[n].target) != DERRIMAS_FINALIZERS_OK)
+                return DERRIMAS_FINALIZERS_NO_MEMORY;
+    return DERRIMAS_FINALIZERS_OK;
+}
+
 static code list_entries(walk *it)
 {
     derrimas_finalizers_entry entry;
@@ -175,7 +193,7 @@ static code list_entries(walk *it)
 
 static code list_heap(walk *it)
 {
-    code (*const parts[])(walk *) = {list_roots, list_registered, list_cleanups, list_targets, list_entries, list_all};
+    code (*const parts[])(walk *) = {list_roots, list_registered, list_cleanups, list_targets, list_keys, list_entries, list_all};
     code listed = DERRIMAS_FINALIZERS_OK;
 
     for (size_t n = 0; listed == DERRIMAS_FINALIZERS_OK && n < sizeof parts / sizeof *parts; n++)

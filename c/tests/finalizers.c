@@ -1,5 +1,5 @@
 /* Every call of derrimas_finalizers.h: each answer, each place that may be NULL, and each place that a refusal leaves as it was. All that doesn't look at single
- * questions about objects is tried with the option `marks` too.
+ * questions about objects and words is tried with the options `marks` and `live` too.
  */
 #include "finalizers_host.h"
 #include <stddef.h>
@@ -8,7 +8,7 @@
 static derrimas_finalizers finalizers;
 static host all;
 static object *const objects = all.objects;
-static bool by_regions; /* whether handles are opened with the option `marks` */
+static bool by_regions; /* whether handles are opened with the options `marks` and `live` */
 
 /* ---- shorter names */
 
@@ -26,11 +26,11 @@ static void links(derrimas_finalizers_link_kind kind, object *it, size_t word, c
 
 static void opens(void)
 {
-    const derrimas_finalizers_options options = {sizeof options, {NULL, NULL, NULL, NULL}, by_regions};
+    const derrimas_finalizers_options options = {sizeof options, {NULL, NULL, NULL, NULL}, by_regions, by_regions};
 
     memset(&all, 0, sizeof all);
     OK(derrimas_finalizers_open(&finalizers, &options));
-    IS(finalizers.asks_marks, by_regions);
+    IS(finalizers.asks_marks == by_regions && finalizers.asks_live == by_regions, true);
 }
 
 static void closes(void)
@@ -196,7 +196,7 @@ static void options_are_refused(void)
     const size_t without_marks = offsetof(derrimas_finalizers_options, marks);
     const size_t sizes[] = {0, 1, sizeof(size_t), without_marks - 1, without_marks + 1, sizeof(derrimas_finalizers_options) - 1,
                             sizeof(derrimas_finalizers_options) + 1, SIZE_MAX};
-    derrimas_finalizers_options options = {sizeof options, whole, by_regions};
+    derrimas_finalizers_options options = {sizeof options, whole, by_regions, by_regions};
 
     for (unsigned given = 1; given < 7; given++) {
         options.allocator.allocate = given & 1 ? allocates : NULL;
@@ -586,6 +586,8 @@ static void questions_of_cleanups(void)
 {
     derrimas_question question;
 
+    if (by_regions)
+        return;
     for (uint64_t questions = 0; questions < 4; questions++) {
         const uint64_t queued = questions < 2 ? 0 : questions == 2 ? 64 : 100; /* the last question isn't answered */
         opens();
@@ -812,49 +814,64 @@ static void registers_number(uint64_t object, uint64_t proc)
     OK(derrimas_finalizers_register(&finalizers, object, DERRIMAS_FINALIZERS_NORMAL, proc, proc + 1, 0, NULL, NULL));
 }
 
-/* A pass asks about regions where the options have `marks`; not where they lack it, and not where they are smaller, whatever stands behind them. */
+/* A pass asks about regions where the options have `marks` or `live`; not where they lack it, and not where they are smaller, whatever stands behind them. Of an
+ * object with a registration, two links and two cleanups it asks five times whether it is marked, and twice whether the words are in use. */
 static void chosen(void)
 {
-    derrimas_finalizers_options options = {sizeof options, {NULL, NULL, NULL, NULL}, false};
+    derrimas_finalizers_options options = {sizeof options, {NULL, NULL, NULL, NULL}, false, false};
 
-    for (unsigned way = 0; way < 3; way++) {
+    for (unsigned way = 0; way < 8; way++) {
+        const bool whole = way < 4, marks = whole && way % 2, live = whole && way / 2;
+
         memset(&all, 0, sizeof all);
-        options.marks = way > 0;
-        options.size = way == 1 ? offsetof(derrimas_finalizers_options, marks) : sizeof options;
+        options.marks = way % 2;
+        options.live = way / 2 % 2;
+        options.size = whole ? sizeof options : offsetof(derrimas_finalizers_options, marks);
         OK(derrimas_finalizers_open(&finalizers, &options));
-        IS(finalizers.asks_marks, way == 2);
+        IS(finalizers.asks_marks == marks && finalizers.asks_live == live, true);
         registers(&objects[1], DERRIMAS_FINALIZERS_NORMAL, 10, 0);
+        links(DERRIMAS_FINALIZERS_SHORT, &objects[1], 0, &objects[1]);
+        links(DERRIMAS_FINALIZERS_LONG, &objects[1], 1, &objects[1]);
+        (void)adds(&objects[1], DERRIMAS_FINALIZERS_SHORT, 20, 0);
+        (void)adds(&objects[1], DERRIMAS_FINALIZERS_LONG, 30, 0);
         objects[1].is_root = true;
         IS(collect(&all, &finalizers).picked, 0);
-        IS(all.asked[DERRIMAS_ASK_MARKS] == (way == 2) && all.asked[DERRIMAS_ASK_IS_MARKED] == (way < 2), true);
+        IS(all.asked[DERRIMAS_ASK_MARKS] == (marks ? 5 : 0) && all.asked[DERRIMAS_ASK_IS_MARKED] == (marks ? 0 : 5), true);
+        IS(all.asked[DERRIMAS_ASK_LIVE] == (live ? 2 : 0) && all.asked[DERRIMAS_ASK_HOLDER_IS_MARKED] == (live ? 0 : 2), true);
+        objects[1].words[0] = objects[1].words[1] = 0;
         objects[1].is_root = false;
+        IS(collect(&all, &finalizers).picked, 2);
+        IS(all.asked[DERRIMAS_ASK_MARKS] == (marks ? 10 : 0) && all.asked[DERRIMAS_ASK_LIVE] == (live ? 4 : 0), true);
+        RUNS(20, 10);
         IS(collect(&all, &finalizers).picked, 1);
-        IS(all.asked[DERRIMAS_ASK_MARKS], way == 2 ? 2 : 0);
-        RUNS(10);
+        RUNS(30);
         closes();
     }
 }
 
-/* A host without `marks` makes no pass over a handle that asks for them, and one with it any. */
-static void host_without_marks(void)
+/* A host without `marks` or `live` makes no pass over a handle that asks for it, and one with them any. */
+static void host_without(bool marks)
 {
     derrimas_host lacking = procedures;
     derrimas_finalizers_passed passed;
 
-    lacking.marks = NULL;
-    for (unsigned marks = 0; marks < 2; marks++) {
-        by_regions = marks;
+    if (marks)
+        lacking.marks = NULL;
+    else
+        lacking.live = NULL;
+    for (unsigned asks = 0; asks < 2; asks++) {
+        by_regions = asks;
         opens();
         registers(&objects[1], DERRIMAS_FINALIZERS_NORMAL, 10, 0);
-        if (marks) {
+        if (asks) {
             REFUSED(DERRIMAS_FINALIZERS_BAD_OPTIONS, passed, derrimas_finalizers_pass(&finalizers, &lacking, &all, &passed));
             OK(derrimas_finalizers_begin(&finalizers));
             REFUSED(DERRIMAS_FINALIZERS_BAD_OPTIONS, passed, derrimas_finalizers_pass(&finalizers, &lacking, &all, &passed));
             OK(derrimas_finalizers_abandon(&finalizers));
             IS(counted().registrations == 1 && counted().queued == 0, true);
         }
-        OK(derrimas_finalizers_pass(&finalizers, marks ? &procedures : &lacking, &all, &passed));
-        IS(passed.picked == 1 && passed.pass == 1 + marks, true);
+        OK(derrimas_finalizers_pass(&finalizers, asks ? &procedures : &lacking, &all, &passed));
+        IS(passed.picked == 1 && passed.pass == 1 + asks, true);
         RUNS(10);
         closes();
     }
@@ -876,10 +893,12 @@ static void alone_is_queued(derrimas_question *question, uint64_t object)
     IS(passed.picked, 1);
 }
 
-/* Each bit of a word is of the object at its place, on the multiples of 16 and off them; no answer of a bit is read of it. */
+/* Where regions begin, on the multiples of 16 and off them. */
+static const uint64_t firsts[] = {1024, (UINT64_C(1) << 47) + 8, UINT64_MAX - 1023, 5 * 1024 + 15};
+
+/* Each bit of a word is of the object at its place; no answer of a bit is read of it. */
 static void each_bit(void)
 {
-    static const uint64_t firsts[] = {1024, (UINT64_C(1) << 47) + 8, UINT64_MAX - 1023, 5 * 1024 + 15};
     derrimas_question question;
 
     by_regions = true;
@@ -923,6 +942,166 @@ static void each_word(void)
         alone_is_queued(&question, unmarked);
         closes();
     }
+}
+
+static void links_number(derrimas_finalizers_link_kind kind, uint64_t word, uint64_t target) { OK(derrimas_finalizers_link(&finalizers, kind, word, target, NULL)); }
+
+static bool has_link(derrimas_finalizers_link_kind kind, uint64_t word)
+{
+    uint64_t target;
+
+    return derrimas_finalizers_target(&finalizers, kind, word, &target) == DERRIMAS_FINALIZERS_OK;
+}
+
+/* Each bit is of the target at its place, whose link is cleared, and of the word at its place, whose link goes. */
+static void each_bit_of_links(derrimas_finalizers_link_kind kind)
+{
+    derrimas_question question;
+
+    by_regions = true;
+    for (unsigned first = 0; first < 4; first++)
+        for (unsigned n = 0; n < 64; n++) {
+            const uint64_t words = firsts[first], targets = firsts[(first + 1) % 4];
+
+            opens();
+            for (uint64_t i = 0; i < 64; i++)
+                links_number(kind, words + 16 * (i * 7 % 64), targets + 16 * i);
+            OK(derrimas_finalizers_begin(&finalizers));
+            OK(derrimas_finalizers_next(&finalizers, 0, &question, NULL));
+            IS(is_asked(&question, DERRIMAS_ASK_MARKS, 1, targets), true);
+            question.marks[0] = ~(UINT64_C(1) << n);
+            OK(derrimas_finalizers_next(&finalizers, 0, &question, NULL));
+            IS(is_asked(&question, DERRIMAS_ASK_CLEAR, 1, words + 16 * (n * 7 % 64)), true);
+            OK(derrimas_finalizers_next(&finalizers, 0, &question, NULL));
+            IS(is_asked(&question, DERRIMAS_ASK_LIVE, 1, words), true);
+            question.marks[0] = ~(UINT64_C(1) << (n + 1) % 64);
+            IS(derrimas_finalizers_next(&finalizers, 0, &question, NULL), DERRIMAS_FINALIZERS_EMPTY);
+            for (uint64_t i = 0; i < 64; i++)
+                IS(has_link(kind, words + 16 * i), i != n * 7 % 64 && i != (n + 1) % 64);
+            closes();
+        }
+}
+
+/* Each bit is of the object at its place, whose cleanup is due. */
+static void each_bit_of_cleanups(derrimas_finalizers_when when)
+{
+    derrimas_finalizers_entry entry;
+    derrimas_finalizers_passed passed;
+    derrimas_question question;
+
+    by_regions = true;
+    for (unsigned first = 0; first < 4; first++)
+        for (unsigned n = 0; n < 64; n++) {
+            opens();
+            for (uint64_t i = 0; i < 64; i++)
+                OK(derrimas_finalizers_add_cleanup(&finalizers, firsts[first] + 16 * i, when, i, i, 0, NULL));
+            OK(derrimas_finalizers_begin(&finalizers));
+            OK(derrimas_finalizers_next(&finalizers, 0, &question, NULL));
+            IS(is_asked(&question, DERRIMAS_ASK_MARKS, 1, firsts[first]), true);
+            question.marks[0] = ~(UINT64_C(1) << n);
+            IS(derrimas_finalizers_next(&finalizers, 0, &question, &passed), DERRIMAS_FINALIZERS_EMPTY);
+            OK(derrimas_finalizers_take_finished(&finalizers, &entry));
+            IS(passed.picked == 1 && entry.proc == n && counted().cleanups == 63, true);
+            closes();
+        }
+}
+
+/* A question about regions of links, the first of 64 and the second of one; the word of region n is `other`, and those of all others are ones. */
+static void answers_all_but(derrimas_question *question, derrimas_ask ask, uint64_t n, uint64_t other)
+{
+    for (uint64_t asked = 0; asked <= DERRIMAS_FINALIZERS_BATCH; asked += question->count) {
+        if (asked)
+            OK(derrimas_finalizers_next(&finalizers, 0, question, NULL));
+        IS(question->ask == ask && question->count == (asked ? 1 : DERRIMAS_FINALIZERS_BATCH), true);
+        for (uint64_t i = 0; i < question->count; i++)
+            question->marks[i] = question->what[i] / 1024 == n + 1 ? other : UINT64_MAX;
+    }
+}
+
+/* Each word is of the region at its place: the link to the target there is cleared, and that from the word there goes. */
+static void each_word_of_links(derrimas_finalizers_link_kind kind)
+{
+    derrimas_question question;
+
+    by_regions = true;
+    for (uint64_t n = 0; n <= DERRIMAS_FINALIZERS_BATCH; n++) {
+        opens();
+        for (uint64_t i = 0; i <= DERRIMAS_FINALIZERS_BATCH; i++)
+            links_number(kind, 1024 * (i + 1) + 32, 1024 * ((i + 7) % (DERRIMAS_FINALIZERS_BATCH + 1) + 1) + 48);
+        OK(derrimas_finalizers_begin(&finalizers));
+        OK(derrimas_finalizers_next(&finalizers, 0, &question, NULL));
+        answers_all_but(&question, DERRIMAS_ASK_MARKS, (n + 7) % (DERRIMAS_FINALIZERS_BATCH + 1), ~UINT64_C(8));
+        OK(derrimas_finalizers_next(&finalizers, 0, &question, NULL));
+        IS(is_asked(&question, DERRIMAS_ASK_CLEAR, 1, 1024 * (n + 1) + 32), true);
+        OK(derrimas_finalizers_next(&finalizers, 0, &question, NULL));
+        answers_all_but(&question, DERRIMAS_ASK_LIVE, (n + 1) % (DERRIMAS_FINALIZERS_BATCH + 1), ~UINT64_C(4));
+        IS(derrimas_finalizers_next(&finalizers, 0, &question, NULL), DERRIMAS_FINALIZERS_EMPTY);
+        for (uint64_t i = 0; i <= DERRIMAS_FINALIZERS_BATCH; i++)
+            IS(has_link(kind, 1024 * (i + 1) + 32), i != n && i != (n + 1) % (DERRIMAS_FINALIZERS_BATCH + 1));
+        closes();
+    }
+}
+
+/* How many regions of words a pass asks about, where all targets are marked, and the words up to this number are in use. */
+static uint64_t words_asked(uint64_t most)
+{
+    derrimas_question question;
+    uint64_t count = 0;
+
+    OK(derrimas_finalizers_begin(&finalizers));
+    while (derrimas_finalizers_next(&finalizers, 0, &question, NULL) == DERRIMAS_FINALIZERS_OK)
+        for (uint64_t n = 0; n < question.count; n++) {
+            IS(question.ask == DERRIMAS_ASK_MARKS || question.ask == DERRIMAS_ASK_LIVE, true);
+            question.marks[n] = question.ask == DERRIMAS_ASK_MARKS || question.what[n] <= most ? UINT64_MAX : 0;
+            count += question.ask == DERRIMAS_ASK_LIVE;
+        }
+    return count;
+}
+
+/* The region of a word that a link was moved to is asked about; that of the word before once more, as long as it is in use. */
+static void moved_words(derrimas_finalizers_link_kind kind)
+{
+    by_regions = true;
+    opens();
+    links_number(kind, 9 * 1024, 16);
+    OK(derrimas_finalizers_move_link(&finalizers, kind, 9 * 1024, 2 * 1024, NULL));
+    IS(words_asked(10 * 1024), 2);
+    IS(words_asked(3 * 1024), 2);
+    IS(words_asked(3 * 1024), 1);
+    OK(derrimas_finalizers_move_link(&finalizers, kind, 2 * 1024, 2 * 1024 + 64, NULL));
+    IS(words_asked(3 * 1024) == 1 && has_link(kind, 2 * 1024 + 64), true);
+    OK(derrimas_finalizers_move_link(&finalizers, kind, 2 * 1024 + 64, 7 * 1024, NULL));
+    IS(words_asked(3 * 1024) == 2 && !has_link(kind, 7 * 1024), true);
+    IS(words_asked(0) == 1 && words_asked(0) == 0, true);
+    closes();
+}
+
+/* If all is marked a pass asks about regions alone, one question for each table; young or not. */
+static void all_marked(void)
+{
+    derrimas_question question;
+    uint64_t asked;
+
+    by_regions = true;
+    opens();
+    for (uint64_t n = 1; n <= 1000; n++) {
+        registers_number(8 * n, n);
+        for (int kind = DERRIMAS_FINALIZERS_SHORT; kind <= DERRIMAS_FINALIZERS_LONG; kind++) {
+            links_number((derrimas_finalizers_link_kind)kind, 8 * n, 8 * n);
+            OK(derrimas_finalizers_add_cleanup(&finalizers, 8 * n, (derrimas_finalizers_when)kind, n, n, 0, NULL));
+        }
+    }
+    memset(question.marks, 255, sizeof question.marks);
+    for (uint64_t from = 0; from < 4000; from += 1000) {
+        OK(derrimas_finalizers_begin_from(&finalizers, from));
+        for (asked = 0; derrimas_finalizers_next(&finalizers, 0, &question, NULL) == DERRIMAS_FINALIZERS_OK; asked++) {
+            IS(question.ask == DERRIMAS_ASK_MARKS || question.ask == DERRIMAS_ASK_LIVE, true);
+            IS(question.count, 16);
+        }
+        IS(asked, 7);
+    }
+    IS(counted().queued == 0 && counted().registrations == 1000 && counted().short_links == 1000 && counted().cleanups == 2000, true);
+    closes();
 }
 
 /* Objects 1 apart are in 16 regions, and large and small numbers are in one each, which may begin at 0. */
@@ -1015,15 +1194,33 @@ static void chance_graph(uint64_t seed)
     }
 }
 
-/* What a pass has done by its answers: it queued entries, by MARK and MARK_ALONE, and removed links, by CLEAR and where the holder isn't marked. */
+/* What a pass has done by its answers: it queued entries, by MARK and MARK_ALONE, and removed links, by CLEAR, and where the holder isn't marked. */
 struct done {
     uint64_t queued, links;
 };
 
-static struct done answered_with(const derrimas_question *question, uint64_t answers)
+/* How many links of a kind have words of which it is said that the holder isn't marked. Each of the two kinds has one question here, and the short ones come first. */
+static uint64_t not_live(derrimas_finalizers_link_kind kind, const derrimas_question *question)
+{
+    derrimas_finalizers_link_at link;
+    uint64_t from = 0, count = 0;
+    size_t one;
+
+    while (derrimas_finalizers_links(&finalizers, kind, &from, &link, 1, &one) == DERRIMAS_FINALIZERS_OK)
+        for (uint64_t i = 0; i < question->count; i++) {
+            const uint64_t distance = link.word - question->what[i];
+
+            count += distance < 1024 && distance % 16 == 0 && !(question->marks[i] >> distance / 16 & 1);
+        }
+    return count;
+}
+
+static struct done answered_with(const derrimas_question *question, uint64_t answers, unsigned *sweeps)
 {
     struct done done = {0, 0};
 
+    if (question->ask == DERRIMAS_ASK_LIVE)
+        done.links = not_live((*sweeps)++ ? DERRIMAS_FINALIZERS_LONG : DERRIMAS_FINALIZERS_SHORT, question);
     if (question->ask == DERRIMAS_ASK_MARK || question->ask == DERRIMAS_ASK_MARK_ALONE)
         done.queued = question->count;
     if (question->ask == DERRIMAS_ASK_CLEAR)
@@ -1040,6 +1237,7 @@ static bool abandoned_after(uint64_t seed, uint64_t questions)
     derrimas_question question;
     struct done all_done = {0, 0}, done;
     uint64_t answers = 0;
+    unsigned sweeps = 0;
 
     opens();
     chance_graph(seed);
@@ -1054,7 +1252,7 @@ static bool abandoned_after(uint64_t seed, uint64_t questions)
         if (n + 1 == questions)
             break;
         answers = derrimas_host_answers(&procedures, &all, &question);
-        done = answered_with(&question, answers);
+        done = answered_with(&question, answers, &sweeps);
         all_done.queued += done.queued;
         all_done.links += done.links;
     }
@@ -1390,11 +1588,19 @@ int main(void)
     each_answer();
     endings();
     chosen();
-    host_without_marks();
+    host_without(true);
+    host_without(false);
     each_bit();
     each_word();
     numbers();
     gone();
+    for (int kind = DERRIMAS_FINALIZERS_SHORT; kind <= DERRIMAS_FINALIZERS_LONG; kind++) {
+        each_bit_of_links((derrimas_finalizers_link_kind)kind);
+        each_word_of_links((derrimas_finalizers_link_kind)kind);
+        each_bit_of_cleanups((derrimas_finalizers_when)kind);
+        moved_words((derrimas_finalizers_link_kind)kind);
+    }
+    all_marked();
     by_regions = true;
     both();
     return told();

@@ -22,7 +22,7 @@ static uint8_t noted(void *place, size_t size, uint64_t a, uint64_t b, uint64_t 
     return answer;
 }
 
-uint8_t fz_machine_open(derrimas_finalizers *f, bool marks) { return noted(NULL, 0, f == &finalizers, 49 + marks, 0, 0, 0); }
+uint8_t fz_machine_open(derrimas_finalizers *f, bool marks, bool live) { return noted(NULL, 0, f == &finalizers, 49 + marks, live, 0, 0); }
 void fz_machine_destroy(derrimas_finalizers *f) { (void)noted(NULL, 0, f == &finalizers, 0, 0, 0, 0); }
 uint8_t fz_machine_reserve(derrimas_finalizers *f, uint64_t a, uint64_t b, uint64_t c) { return noted(NULL, 0, f == &finalizers, a, b, c, 0); }
 uint8_t fz_machine_shrink(derrimas_finalizers *f) { return noted(NULL, 0, f == &finalizers, 46, 0, 0, 0); }
@@ -62,6 +62,7 @@ uint8_t fz_machine_unlink(derrimas_finalizers *f, bool is_long, uint64_t word, b
 
 uint8_t fz_machine_move_link(derrimas_finalizers *f, bool is_long, uint64_t word, uint64_t to, uint8_t *place)
 {
+    IS(current == &finalizers.allocator, true); /* the region of a word may take memory */
     return told_link(noted(place, sizeof *place, f == &finalizers, is_long, word, to, 0), place);
 }
 
@@ -277,24 +278,34 @@ static void answers_of_links(void)
     link_answer = 0;
 }
 
-/* Without options, of the size of now and of one without `marks`, whose byte isn't read then: what the handle and its export are told. */
-static void opens(void)
+/* What the handle and its export are told by an opening with these options. */
+static void opens_with(const derrimas_finalizers_options *options, bool marks, bool live)
 {
-    derrimas_finalizers_options options = {sizeof options, libc, true};
     const bool is_ok = answer == DERRIMAS_FINALIZERS_OK;
 
-    finalizers.asks_marks = false;
-    IS(derrimas_finalizers_open(&finalizers, &options), answer);
-    IS(given[0] == 1 && given[1] == 50 && finalizers.asks_marks == is_ok, true);
-    options.size = offsetof(derrimas_finalizers_options, marks);
-    IS(derrimas_finalizers_open(&finalizers, &options), answer);
-    IS(given[1] == 49 && !finalizers.asks_marks, true);
-    options.size = sizeof options;
-    options.marks = finalizers.asks_marks = false;
-    IS(derrimas_finalizers_open(&finalizers, &options), answer);
-    IS(given[1] == 49 && !finalizers.asks_marks, true);
-    IS(derrimas_finalizers_open(&finalizers, NULL), answer);
-    IS(given[1] == 49 && !finalizers.asks_marks, true);
+    finalizers.asks_marks = finalizers.asks_live = false;
+    IS(derrimas_finalizers_open(&finalizers, options), answer);
+    IS(given[0] == 1 && given[1] == 49u + marks, true);
+    IS(given[2], live);
+    IS(finalizers.asks_marks, is_ok && marks);
+    IS(finalizers.asks_live, is_ok && live);
+    IS(current == NULL, true);
+}
+
+/* Without options, of the size of now and of one without `marks` and `live`, whose bytes aren't read then. */
+static void opens(void)
+{
+    derrimas_finalizers_options options = {sizeof options, libc, false, false};
+
+    for (unsigned way = 0; way < 4; way++) {
+        options.size = sizeof options;
+        options.marks = way % 2;
+        options.live = way / 2;
+        opens_with(&options, options.marks, options.live);
+        options.size = offsetof(derrimas_finalizers_options, marks);
+        opens_with(&options, false, false);
+    }
+    opens_with(NULL, false, false);
 }
 
 static void changes(void)
@@ -306,6 +317,7 @@ static void changes(void)
     THROUGH(old, derrimas_finalizers_unregister(&finalizers, 7, &old), 1, 7);
     THROUGH(linked, derrimas_finalizers_link(&finalizers, DERRIMAS_FINALIZERS_LONG, 8, 9, &linked), 1, 1, 8, 9);
     THROUGH(linked, derrimas_finalizers_move_link(&finalizers, DERRIMAS_FINALIZERS_SHORT, 8, 9, &linked), 1, 0, 8, 9);
+    IS(current == NULL, true);
     answers_of_links();
     THROUGH(was, derrimas_finalizers_unlink(&finalizers, DERRIMAS_FINALIZERS_LONG, 8, &was), 1, 1, 8);
     THROUGH(linked, derrimas_finalizers_ephemeron(&finalizers, DERRIMAS_FINALIZERS_LONG, 8, 9, &linked), 1, 1, 8, 9, 2);

@@ -1,5 +1,5 @@
 /* Ephemerons of derrimas_finalizers.h: each call over the range of its arguments, with each answer and each refusal; worked rows; the questions of passes over chains of
- * them, with the keys that are told and without; hosts that lie or lack mark_value. All of this with the option `marks` too.
+ * them, with the keys that are told and without; hosts that lie or lack mark_value. All of this with the options `marks` and `live` too.
  */
 #include "finalizers_host.h"
 
@@ -18,7 +18,7 @@ static bool by_regions;
 
 static void opens(void)
 {
-    const derrimas_finalizers_options options = {sizeof options, {NULL, NULL, NULL, NULL}, by_regions};
+    const derrimas_finalizers_options options = {sizeof options, {NULL, NULL, NULL, NULL}, by_regions, by_regions};
 
     memset(&all, 0, sizeof all);
     OK(derrimas_finalizers_open(&finalizers, &options));
@@ -552,7 +552,7 @@ static bool marks_next(void *data, uint64_t word)
 
 static void passes_over_chain(bool first_is_marked)
 {
-    static const derrimas_host links = {link_is_marked, NULL, NULL, NULL, clears, no_holder, NULL, marks_next};
+    static const derrimas_host links = {link_is_marked, NULL, NULL, NULL, clears, no_holder, NULL, NULL, marks_next};
     derrimas_question question;
     uint64_t answers = 0;
 

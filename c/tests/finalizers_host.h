@@ -108,6 +108,21 @@ static uint64_t answer_marks(void *data, uint64_t first)
     return marks;
 }
 
+/* Any address within an object is in it. */
+static uint64_t answer_live(void *data, uint64_t first)
+{
+    host *all = data;
+    uint64_t live = 0;
+
+    all->asked[DERRIMAS_ASK_LIVE]++;
+    for (uint64_t n = 0; n < 64; n++) {
+        const object *holder = found(all, first + 16 * n);
+
+        live |= (uint64_t)(!holder || holder->is_marked) << n;
+    }
+    return live;
+}
+
 static bool mark_value(void *data, uint64_t word)
 {
     host *all = data;
@@ -119,7 +134,7 @@ static bool mark_value(void *data, uint64_t word)
     return is_new;
 }
 
-static const derrimas_host procedures = {answer_is_marked, mark_children, mark_it, mark_alone, clear, holder_is_marked, answer_marks, mark_value};
+static const derrimas_host procedures = {answer_is_marked, mark_children, mark_it, mark_alone, clear, holder_is_marked, answer_marks, answer_live, mark_value};
 
 /* Marks from the host's roots, and from those of the finalizers. */
 static inline void mark_all(host *all, const derrimas_finalizers *finalizers)

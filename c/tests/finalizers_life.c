@@ -51,7 +51,7 @@ static bool is_marked(void *data, uint64_t object) { return (void)data, (void)ob
 static void mark_children(void *data, uint64_t object, bool but_itself) { (void)data, (void)object, (void)but_itself; }
 static void mark(void *data, uint64_t object) { (void)data, (void)object; }
 
-static const derrimas_host nothing_lives = {is_marked, mark_children, mark, mark, mark, is_marked, NULL, NULL};
+static const derrimas_host nothing_lives = {is_marked, mark_children, mark, mark, mark, is_marked, NULL, NULL, NULL};
 
 static uint64_t object_at(uint64_t n) { return 65536 + 16 * n; }
 
@@ -147,7 +147,7 @@ static void one_peak(void)
 
 int main(void)
 {
-    derrimas_finalizers_options options = {sizeof options, {allocate, reallocate, release, &memory}, false};
+    derrimas_finalizers_options options = {sizeof options, {allocate, reallocate, release, &memory}, false, false};
 
     IS(derrimas_finalizers_open(&finalizers, &options), DERRIMAS_FINALIZERS_OK);
     many_passes();

@@ -1,6 +1,6 @@
 /* Memory of a host's own, by its options. Each allocation is refused once, after which nothing has changed; no call but those that derrimas_finalizers.h names
  * asks for memory or gives any back; calls that take a const handle write to none of it, which is then read-only; and each handle has its own. All of this
- * without the option `marks` and with it.
+ * without the options `marks` and `live` and with them.
  */
 #define _DEFAULT_SOURCE /* for MAP_ANONYMOUS */
 #include "finalizers_host.h"
@@ -17,6 +17,7 @@ typedef struct heap {
     unsigned asked, standing; /* how often the three were called; how many blocks aren't freed */
     size_t live;              /* the bytes of those */
     unsigned strange;         /* how often something came that wasn't given here */
+    unsigned refused;         /* how often an allocation was refused */
     void (*within)(void);     /* called by each, if it isn't NULL */
 } heap;
 
@@ -32,6 +33,7 @@ static void *allocate(void *data, size_t size)
     it->asked++;
     if (it->within)
         it->within();
+    it->refused += it->granted == 0;
     if (it->granted == 0 || size == 0 || size > ROOM - HEAD - it->used)
         return NULL;
     it->granted -= it->granted > 0;
@@ -75,8 +77,8 @@ static void *reallocate(void *data, void *at, size_t size)
     return other;
 }
 
-static derrimas_finalizers_options options = {sizeof options, {allocate, reallocate, release, &first}, false};
-static derrimas_finalizers_options other_options = {sizeof other_options, {allocate, reallocate, release, &second}, false};
+static derrimas_finalizers_options options = {sizeof options, {allocate, reallocate, release, &first}, false, false};
+static derrimas_finalizers_options other_options = {sizeof other_options, {allocate, reallocate, release, &second}, false, false};
 
 static derrimas_finalizers_counts counted(void)
 {
@@ -217,7 +219,7 @@ static void adding_without_memory(void)
         REFUSED(DERRIMAS_FINALIZERS_NO_MEMORY, number, derrimas_finalizers_add_cleanup(&finalizers, 8, DERRIMAS_FINALIZERS_LONG, 1, 2, 3, &number));
 }
 
-/* Up to what is reserved, no memory is asked for but for ephemerons, for cleanups and for regions, without which registrations are accepted. */
+/* Up to what is reserved, no memory is asked for but for ephemerons, for cleanups and for regions, without which registrations and links are accepted. */
 static void reserved(void)
 {
     unsigned refused = 0, before;
@@ -331,14 +333,16 @@ static bool finds_cleanup(uint64_t number)
     return derrimas_finalizers_cleanup(&finalizers, number, &it) == DERRIMAS_FINALIZERS_OK;
 }
 
-/* A pass in which the objects up to this one are marked, and all words' holders: it forgets the regions of others. */
+static bool is_of_regions(const derrimas_question *question) { return question->ask == DERRIMAS_ASK_MARKS || question->ask == DERRIMAS_ASK_LIVE; }
+
+/* A pass in which the objects up to this one are marked, and the holders of the words up to there: it forgets the regions of others. */
 static void forgets_regions(uint64_t left)
 {
     derrimas_question question;
 
     OK(derrimas_finalizers_begin(&finalizers));
     while (derrimas_finalizers_next(&finalizers, UINT64_MAX, &question, NULL) == DERRIMAS_FINALIZERS_OK)
-        for (uint64_t n = 0; question.ask == DERRIMAS_ASK_MARKS && n < question.count; n++) {
+        for (uint64_t n = 0; is_of_regions(&question) && n < question.count; n++) {
             question.marks[n] = 0;
             for (uint64_t i = 0; i < 64; i++)
                 question.marks[n] |= (uint64_t)(question.what[n] + 16 * i <= 8 * left) << i;
@@ -392,52 +396,102 @@ static void shrinks(void)
     }
 }
 
-/* How many objects of a graph are queued, where so many allocations are granted before one is refused, which comes in the registrations; and whether one was.
- * A shrink with memory may come before the passes. */
-static uint64_t queued_with(long granted, bool notes_again, bool *was_refused)
-{
-    derrimas_finalizers_code code;
-    uint64_t picked = 0;
+enum { NOTED = 120 };
 
-    *was_refused = false;
+/* Whether the call that returned this is to be made again. One allocation alone is refused. */
+static bool is_refused(derrimas_finalizers_code code)
+{
+    if (first.refused)
+        first.granted = -1;
+    IS(code == DERRIMAS_FINALIZERS_OK || (code == DERRIMAS_FINALIZERS_NO_MEMORY && first.refused), true);
+    return code != DERRIMAS_FINALIZERS_OK;
+}
+
+/* A link from a word, which isn't followed. */
+static void links_again(derrimas_finalizers_link_kind kind, size_t n, size_t word, size_t target)
+{
+    objects[n].words[word] = number_of(&objects[target]);
+    objects[n].keyed[word] = true;
+    while (is_refused(derrimas_finalizers_link(&finalizers, kind, word_of(&objects[n], word), number_of(&objects[target]), NULL)))
+        ;
+}
+
+/* A registration, a cleanup and two links of each object; every second short link is moved. */
+static void notes_all(void)
+{
+    for (size_t n = 0; n < NOTED; n++) {
+        objects[n].is_root = n % 3 == 0;
+        while (is_refused(derrimas_finalizers_register(&finalizers, number_of(&objects[n]), (derrimas_finalizers_kind)(n / 2 % 4), n, n, 0, NULL, NULL)))
+            ;
+        while (is_refused(derrimas_finalizers_add_cleanup(&finalizers, number_of(&objects[n]), (derrimas_finalizers_when)(n % 2), n, n, 0, NULL)))
+            ;
+        links_again(DERRIMAS_FINALIZERS_SHORT, n, 1, (n + 1) % NOTED);
+        links_again(DERRIMAS_FINALIZERS_LONG, n, 2, (n + 2) % NOTED);
+        if (n % 2) {
+            objects[n + NOTED].is_root = objects[n].is_root;
+            while (is_refused(derrimas_finalizers_move_link(&finalizers, DERRIMAS_FINALIZERS_SHORT, word_of(&objects[n], 1), word_of(&objects[n + NOTED], 3), NULL)))
+                ;
+        }
+    }
+}
+
+/* How many entries a pass queues. Those of the one before are finished. */
+static uint64_t queued_next(void)
+{
+    derrimas_finalizers_entry entry;
+
+    while (derrimas_finalizers_take_finished(&finalizers, &entry) == DERRIMAS_FINALIZERS_OK)
+        ;
+    return collect(&all, &finalizers).picked;
+}
+
+/* What becomes of a graph in three passes, of which the last two find nothing reachable: entries and links. So many allocations are granted before one is refused,
+ * which comes while the graph is made. A shrink with memory may come before the passes. */
+static uint64_t left_with(long granted, bool notes_again)
+{
+    derrimas_finalizers_counts counts;
+    uint64_t picked;
+
     memset(&all, 0, sizeof all);
     OK(derrimas_finalizers_open(&finalizers, &options));
     first.granted = granted;
-    for (size_t n = 0; n < 300; n++)
-        do {
-            objects[n].is_root = n % 3 == 0;
-            code = derrimas_finalizers_register(&finalizers, number_of(&objects[n]), DERRIMAS_FINALIZERS_NORMAL, n, n, 0, NULL, NULL);
-            *was_refused |= first.granted == 0;
-            first.granted = *was_refused ? -1 : first.granted;
-        } while (code == DERRIMAS_FINALIZERS_NO_MEMORY);
+    first.refused = 0;
+    notes_all();
     first.granted = -1;
     if (notes_again)
         OK(derrimas_finalizers_shrink(&finalizers));
-    picked += collect(&all, &finalizers).picked;
-    for (size_t n = 0; n < 300; n++)
+    picked = queued_next();
+    counts = counted();
+    for (size_t n = 0; n < 2 * NOTED; n++)
         objects[n].is_root = false;
-    picked += 1000 * collect(&all, &finalizers).picked;
-    IS(counted().registrations, 0);
+    picked += 1000 * queued_next();
+    picked += 1000000 * queued_next();
+    IS(counted().registrations + counted().cleanups + counted().short_links + counted().long_links, 0);
     closes();
-    return picked;
+    return picked + 1000000000 * (counts.short_links + 1000 * counts.long_links);
 }
 
-/* Whichever allocation is refused in the registrations, passes queue the same. Without memory for a region they ask of each object, until a shrink has some. */
+/* Whichever allocation is refused while a graph is made, passes do the same. Where there was no memory for a region they ask about each object or word, until a
+ * shrink has some. */
 static void refused_regions(void)
 {
-    uint64_t by_regions = 0, by_objects = 0;
-    bool was_refused = true;
+    uint64_t by_regions = 0, by_objects = 0, by_words = 0, wanted, least;
 
-    options.marks = true;
-    for (long granted = 0; was_refused; granted++) {
-        IS(queued_with(granted, true, &was_refused), 100200);
-        IS(all.asked[DERRIMAS_ASK_MARKS] > 0, true);
-        IS(queued_with(granted, false, &was_refused), 100200);
-        by_regions += all.asked[DERRIMAS_ASK_MARKS] > 0;
-        by_objects += all.asked[DERRIMAS_ASK_MARKS] == 0;
-        IS(all.asked[DERRIMAS_ASK_MARKS] > 0 || was_refused, true);
+    options.marks = options.live = false;
+    wanted = left_with(-1, false);
+    options.marks = options.live = true;
+    IS(left_with(-1, false), wanted);
+    least = all.asked[DERRIMAS_ASK_IS_MARKED];
+    first.refused = 1;
+    for (long granted = 0; first.refused; granted++) {
+        IS(left_with(granted, true), wanted);
+        IS(all.asked[DERRIMAS_ASK_MARKS] > 0 && all.asked[DERRIMAS_ASK_LIVE] > 0 && all.asked[DERRIMAS_ASK_HOLDER_IS_MARKED] == 0, true);
+        IS(left_with(granted, false), wanted);
+        by_words += all.asked[DERRIMAS_ASK_HOLDER_IS_MARKED] > 0;
+        by_objects += all.asked[DERRIMAS_ASK_IS_MARKED] > least;
+        by_regions += all.asked[DERRIMAS_ASK_HOLDER_IS_MARKED] == 0;
     }
-    IS(by_regions > 1 && by_objects > 0, true);
+    IS(by_regions > 1 && by_objects > 1 && by_words > 1, true);
 }
 
 static uint64_t cleanups[2][OBJECTS]; /* their numbers */
@@ -459,11 +513,11 @@ static void fill(void)
     }
 }
 
-/* All other calls ask for none, and give none back. */
+/* All other calls ask for none, and give none back; a moved link may ask for its word's region. */
 static void others(void)
 {
     derrimas_finalizers_entry entry;
-    unsigned before;
+    unsigned before, asked;
 
     OK(derrimas_finalizers_open(&finalizers, &options));
     fill();
@@ -474,7 +528,9 @@ static void others(void)
     OK(derrimas_finalizers_abandon(&finalizers));
     IS(collect(&all, &finalizers).picked > 100, true);
     for (size_t n = 0; n < OBJECTS; n += 2) {
+        asked = first.asked;
         OK(derrimas_finalizers_move_link(&finalizers, DERRIMAS_FINALIZERS_SHORT, word_of(&objects[n], 1), word_of(&objects[n], 3), NULL));
+        before += options.live ? first.asked - asked : 0;
         OK(derrimas_finalizers_unlink(&finalizers, DERRIMAS_FINALIZERS_LONG, word_of(&objects[n], 2), NULL));
         OK(derrimas_finalizers_move_ephemeron(&finalizers, word_of(&objects[n], 3), word_of(&objects[n], 2), NULL));
         OK(n % 3 ? DERRIMAS_FINALIZERS_OK : derrimas_finalizers_end_ephemeron(&finalizers, word_of(&objects[n], 2), NULL));
@@ -655,8 +711,8 @@ int main(void)
     second.memory = mmap(NULL, ROOM, PROT_READ | PROT_WRITE, MAP_PRIVATE | MAP_ANONYMOUS, -1, 0);
     if (first.memory == MAP_FAILED || second.memory == MAP_FAILED)
         return 2;
-    for (unsigned marks = 0; marks < 2; marks++) {
-        options.marks = other_options.marks = marks;
+    for (unsigned regions = 0; regions < 2; regions++) {
+        options.marks = options.live = other_options.marks = other_options.live = regions;
         opening();
         refusals();
         for (int kind = 0; kind < 16; kind++)

@@ -30,7 +30,7 @@ static bool root(void *data, uint64_t n, uint64_t *to)
     return n == 0;
 }
 
-static const derrimas_host host = {is_marked, mark_children, mark, mark, mark, is_marked, marks, mark_value};
+static const derrimas_host host = {is_marked, mark_children, mark, mark, mark, is_marked, marks, marks, mark_value};
 static const derrimas_paths paths = {child, root, NULL};
 
 static void fill(derrimas_finalizers *it)
@@ -94,7 +94,7 @@ static void *nothing(void *at) { return at; }
 /* How many bytes of its stack a thread uses that runs this. */
 static size_t used_by(void *(*run)(void *at))
 {
-    const derrimas_finalizers_options options = {sizeof options, {0}, true};
+    const derrimas_finalizers_options options = {sizeof options, {0}, true, true};
     derrimas_finalizers it = {0};
     unsigned char *stack = mmap(NULL, STACK, PROT_READ | PROT_WRITE, MAP_PRIVATE | MAP_ANONYMOUS, -1, 0);
     pthread_attr_t how;

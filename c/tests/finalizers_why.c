@@ -1,5 +1,6 @@
-/* derrimas_finalizers_why and .._stuck: worked rows, their refusals, and small graphs of chance beside a plain reading of the header that shares no code with the
- * library: the reason, the path step by step, what waits for a ring, and what a pass then queues. Memory is refused at each allocation in turn. The argument is how many graphs; else 20,000.
+/* derrimas_finalizers_why and .._stuck: worked rows, their refusals, and small graphs of chance, with ephemerons, beside a plain reading of the header that shares no
+ * code with the library: the reason, the path step by step, what waits for a ring, and what a pass then queues. Memory is refused at each allocation in turn. The
+ * argument is how many graphs; else 20,000.
  */
 #include "check.h"
 #include "derrimas_finalizers.h"
@@ -74,14 +75,34 @@ static derrimas_finalizers_code ask_stuck(heap *it)
 
 /* ---- a pass over the heap */
 
+/* The key of the ephemeron that the word is, by its index, and whether it is one. */
+static bool is_ephemeron(const heap *it, unsigned object, unsigned word, derrimas_finalizers_link_kind *kind, unsigned *key)
+{
+    uint64_t found = 0;
+    const bool is = derrimas_finalizers_key(&it->finalizers, word_number(it, object, word), kind, &found) == DERRIMAS_FINALIZERS_OK;
+
+    if (is)
+        *key = index_of(found);
+    return is;
+}
+
+/* The object to which a word points, if it is a word by which the heap marks, with 1 more; else 0. */
+static unsigned scanned_child(const heap *it, unsigned object, unsigned word)
+{
+    derrimas_finalizers_link_kind kind;
+    unsigned key;
+
+    return is_ephemeron(it, object, word, &kind, &key) ? 0 : it->child[object][word];
+}
+
 static void mark_on(heap *it, unsigned object)
 {
     if (it->marked[object])
         return;
     it->marked[object] = true;
     for (unsigned n = 0; n < it->words[object]; n++)
-        if (it->child[object][n])
-            mark_on(it, it->child[object][n] - 1);
+        if (scanned_child(it, object, n))
+            mark_on(it, scanned_child(it, object, n) - 1);
 }
 
 static bool is_marked(void *data, uint64_t object) { return ((heap *)data)->marked[index_of(object)]; }
@@ -94,8 +115,8 @@ static void mark_children(void *data, uint64_t object, bool but_itself)
     const unsigned index = index_of(object);
 
     for (unsigned n = 0; n < it->words[index]; n++)
-        if (it->child[index][n] && !(but_itself && it->child[index][n] - 1 == index))
-            mark_on(it, it->child[index][n] - 1);
+        if (scanned_child(it, index, n) && !(but_itself && scanned_child(it, index, n) - 1 == index))
+            mark_on(it, scanned_child(it, index, n) - 1);
 }
 
 /* The object and the place of a word by its number. */
@@ -123,9 +144,21 @@ static bool holder_is_marked(void *data, uint64_t word)
     return ((heap *)data)->marked[object];
 }
 
+static bool mark_value(void *data, uint64_t word)
+{
+    unsigned object, place;
+    heap *it = data;
+
+    place_of(it, word, &object, &place);
+    if (!it->child[object][place] || it->marked[it->child[object][place] - 1])
+        return false;
+    mark_on(it, it->child[object][place] - 1);
+    return true;
+}
+
 static void collect(heap *it)
 {
-    static const derrimas_host host = {is_marked, mark_children, mark, mark_alone, clear, holder_is_marked, NULL, NULL};
+    static const derrimas_host host = {is_marked, mark_children, mark, mark_alone, clear, holder_is_marked, NULL, NULL, mark_value};
     uint64_t some[64], from;
     size_t count;
 
@@ -341,6 +374,103 @@ static void kinds(void)
     derrimas_finalizers_destroy(&it.finalizers);
 }
 
+static void keyed(heap *it, derrimas_finalizers_link_kind kind, unsigned object, unsigned word, unsigned key)
+{
+    OK(derrimas_finalizers_ephemeron(&it->finalizers, kind, word_number(it, object, word), number(key), NULL));
+}
+
+/* 0 has the ephemeron of the key 1, whose value is 2. */
+static void values(unsigned way)
+{
+    heap it;
+
+    begin(&it, 3, 2);
+    it.way = way;
+    it.roots[0] = 1;
+    it.roots[1] = 2;
+    it.child[0][1] = 3;
+    registers(&it, 2, DERRIMAS_FINALIZERS_NORMAL, 0);
+    WHY(&it, 2, DERRIMAS_WHY_FOUND, 0, 2, );
+    keyed(&it, DERRIMAS_FINALIZERS_SHORT, 0, 1, 1);
+    WHY(&it, 2, DERRIMAS_WHY_FOUND, 0, 2, ); /* by the key and the object that has the word */
+    it.roots[1] = 0;
+    WHY(&it, 2, DERRIMAS_WHY_READY, );
+    registers(&it, 1, DERRIMAS_FINALIZERS_NORMAL, 0);
+    it.child[2][0] = 2;
+    WHY(&it, 1, DERRIMAS_WHY_WAITS, 2, 1, ); /* a value that reaches its key doesn't retain it: it comes first */
+    WHY(&it, 2, DERRIMAS_WHY_READY, );
+    STUCK(&it, );
+    keyed(&it, DERRIMAS_FINALIZERS_LONG, 0, 1, 1); /* its key is retained with what the value reaches */
+    WHY(&it, 2, DERRIMAS_WHY_RING, 2, 1, 2, );
+    WHY(&it, 1, DERRIMAS_WHY_WAITS, 2, 1, );
+    STUCK(&it, 2, 1, );
+    it.roots[0] = 0; /* nothing retains the object that has the word */
+    WHY(&it, 2, DERRIMAS_WHY_READY, );
+    STUCK(&it, );
+    derrimas_finalizers_destroy(&it.finalizers);
+}
+
+/* One object reaches the key 2, and another the object 3 that has the ephemeron, whose value is 4. */
+static void two_hold_a_value(void)
+{
+    heap it;
+
+    begin(&it, 5, 1);
+    it.child[0][0] = 3;
+    it.child[1][0] = 4;
+    it.child[3][0] = 5;
+    keyed(&it, DERRIMAS_FINALIZERS_LONG, 3, 0, 2);
+    registers(&it, 0, DERRIMAS_FINALIZERS_NORMAL, 0);
+    registers(&it, 4, DERRIMAS_FINALIZERS_NORMAL, 0);
+    WHY(&it, 4, DERRIMAS_WHY_READY, );
+    registers(&it, 1, DERRIMAS_FINALIZERS_NORMAL, 0);
+    WHY(&it, 4, DERRIMAS_WHY_WAITS, 1, 3, 4, );
+    it.child[1][0] = 0; /* the value itself reaches 3: it waits for the other one, and is on no ring */
+    it.child[4][0] = 4;
+    WHY(&it, 4, DERRIMAS_WHY_WAITS, 0, 2, 4, );
+    STUCK(&it, );
+    it.roots[0] = 3;
+    WHY(&it, 4, DERRIMAS_WHY_RING, 4, 3, 4, );
+    STUCK(&it, 4, );
+    derrimas_finalizers_destroy(&it.finalizers);
+}
+
+/* Toward an object of kind UNREACHABLE another one counts itself, as a key. */
+static void key_of_unreachable(void)
+{
+    heap it;
+
+    begin(&it, 3, 1);
+    it.roots[0] = 1;
+    it.child[0][0] = 3;
+    keyed(&it, DERRIMAS_FINALIZERS_LONG, 0, 0, 1);
+    registers(&it, 1, DERRIMAS_FINALIZERS_NO_ORDER, 0);
+    registers(&it, 2, DERRIMAS_FINALIZERS_NORMAL, 0);
+    WHY(&it, 2, DERRIMAS_WHY_READY, );
+    registers(&it, 2, DERRIMAS_FINALIZERS_UNREACHABLE, 0);
+    WHY(&it, 2, DERRIMAS_WHY_WAITS, 1, 2, );
+    collect(&it);
+    WHY(&it, 1, DERRIMAS_WHY_QUEUED, );
+    WHY(&it, 2, DERRIMAS_WHY_FOUND, 0, 2, ); /* the entry retains the key */
+    derrimas_finalizers_destroy(&it.finalizers);
+}
+
+/* The value of an ephemeron whose word isn't listed doesn't count. */
+static void word_elsewhere(void)
+{
+    heap it;
+
+    begin(&it, 2, 1);
+    it.roots[0] = 1;
+    OK(derrimas_finalizers_ephemeron(&it.finalizers, DERRIMAS_FINALIZERS_SHORT, 5, number(0), NULL));
+    registers(&it, 1, DERRIMAS_FINALIZERS_NORMAL, 0);
+    WHY(&it, 1, DERRIMAS_WHY_READY, );
+    OK(derrimas_finalizers_ephemeron(&it.finalizers, DERRIMAS_FINALIZERS_SHORT, 5, number(1), NULL)); /* its key is listed all the same */
+    it.roots[0] = 0;
+    WHY(&it, 1, DERRIMAS_WHY_READY, );
+    derrimas_finalizers_destroy(&it.finalizers);
+}
+
 /* ---- refusals */
 
 static bool child_next(void *data, uint64_t object, uint64_t n, uint64_t *word, uint64_t *child)
@@ -422,7 +552,7 @@ static void release(void *data, void *memory)
     free(memory);
 }
 
-static const derrimas_finalizers_options counted = {sizeof counted, {allocate, reallocate, release, NULL}, false};
+static const derrimas_finalizers_options counted = {sizeof counted, {allocate, reallocate, release, NULL}, false, false};
 
 /* Asks with as much memory as it takes, and before with less each time. */
 static void ask_with_little(heap *it, unsigned object)
@@ -462,7 +592,7 @@ static void ask_stuck_with_little(heap *it)
     OK(code);
 }
 
-/* Where nothing else is registered, the first memory for what is to be listed is for a cleanup's data, a link's target or an entry. */
+/* Where nothing else is registered, the first memory for what is to be listed is for a cleanup's data, a link's target, an ephemeron's key or an entry. */
 static void little_memory(void)
 {
     derrimas_finalizers_entry entry;
@@ -477,6 +607,9 @@ static void little_memory(void)
     OK(derrimas_finalizers_link(&it.finalizers, DERRIMAS_FINALIZERS_SHORT, 5, number(1), NULL));
     ask_with_little(&it, 0);
     OK(derrimas_finalizers_unlink(&it.finalizers, DERRIMAS_FINALIZERS_SHORT, 5, NULL));
+    OK(derrimas_finalizers_ephemeron(&it.finalizers, DERRIMAS_FINALIZERS_SHORT, 5, number(1), NULL));
+    ask_with_little(&it, 0);
+    OK(derrimas_finalizers_end_ephemeron(&it.finalizers, 5, NULL));
     registers(&it, 0, DERRIMAS_FINALIZERS_NORMAL, 0);
     OK(derrimas_finalizers_queue_all(&it.finalizers, NULL));
     ask_with_little(&it, 0);
@@ -487,30 +620,64 @@ static void little_memory(void)
     IS(blocks, 0);
 }
 
-/* ---- a plain reading of the header, by tables of what leads to what */
+/* ---- a plain reading of the header, by sets of objects that grow until nothing is added */
+
+typedef struct row {
+    unsigned holder, key, value;
+} row;
 
 typedef struct reading {
-    bool found[MOST], leads[MOST][MOST], first[MOST][MOST]; /* first: each word that isn't cut */
+    bool found[MOST], child[MOST][MOST]; /* child: by each word that isn't cut */
     bool is_registered[MOST];
     derrimas_finalizers_kind kind[MOST];
+    row rows[MOST * WORDS]; /* the ephemerons that aren't cleared */
+    unsigned row_count;
 } reading;
 
-/* leads[a][b] from here on is whether a path of any length leads from a to b, also none. */
-static void close_over(bool leads[MOST][MOST])
+/* Adds what the set reaches. Keys and objects with ephemerons may be in the other set, too, which may be the same. */
+static void grow(const reading *r, bool set[MOST], const bool other[MOST])
 {
-    for (unsigned n = 0; n < MOST; n++)
-        leads[n][n] = true;
-    for (unsigned by = 0; by < MOST; by++)
+    for (bool is_more = true; is_more;) {
+        is_more = false;
         for (unsigned from = 0; from < MOST; from++)
             for (unsigned to = 0; to < MOST; to++)
-                leads[from][to] |= leads[from][by] && leads[by][to];
+                if (set[from] && r->child[from][to] && !set[to])
+                    is_more = set[to] = true;
+        for (unsigned n = 0; n < r->row_count; n++) {
+            const row *row = &r->rows[n];
+
+            if ((set[row->key] || other[row->key]) && (set[row->holder] || other[row->holder]) && !set[row->value])
+                is_more = set[row->value] = true;
+        }
+    }
 }
 
 static void found_by(reading *r, const heap *it, uint64_t word)
 {
     if (is_object(word, it))
-        for (unsigned to = 0; to < it->count; to++)
-            r->found[to] |= r->leads[index_of(word)][to];
+        r->found[index_of(word)] = true;
+}
+
+/* The children and the rows, without those of short links and ephemerons whose targets and keys aren't in the set, if there is one. */
+static void read_words(reading *r, const heap *it, const bool *found)
+{
+    derrimas_finalizers_link_kind kind;
+    uint64_t target;
+    unsigned key;
+
+    memset(r->child, 0, sizeof r->child);
+    r->row_count = 0;
+    for (unsigned a = 0; a < it->count; a++)
+        for (unsigned n = 0; n < it->words[a]; n++) {
+            const bool is_linked = derrimas_finalizers_target(&it->finalizers, DERRIMAS_FINALIZERS_SHORT, word_number(it, a, n), &target) == DERRIMAS_FINALIZERS_OK;
+
+            if (!it->child[a][n] || (found && is_linked && !found[index_of(target)]))
+                continue;
+            if (!is_ephemeron(it, a, n, &kind, &key))
+                r->child[a][it->child[a][n] - 1] = true;
+            else if (!found || kind == DERRIMAS_FINALIZERS_LONG || found[key])
+                r->rows[r->row_count++] = (row){a, key, it->child[a][n] - 1};
+        }
 }
 
 static void read_found(reading *r, const heap *it)
@@ -518,11 +685,7 @@ static void read_found(reading *r, const heap *it)
     uint64_t some[64], from;
     size_t count;
 
-    for (unsigned a = 0; a < it->count; a++)
-        for (unsigned n = 0; n < it->words[a]; n++)
-            if (it->child[a][n])
-                r->leads[a][it->child[a][n] - 1] = true;
-    close_over(r->leads);
+    read_words(r, it, NULL);
     for (unsigned n = 0; n < ROOTS; n++)
         if (it->roots[n])
             found_by(r, it, number(it->roots[n] - 1));
@@ -530,49 +693,66 @@ static void read_found(reading *r, const heap *it)
         for (from = 0; derrimas_finalizers_roots(&it->finalizers, (derrimas_finalizers_root)sort, &from, some, 64, &count) == DERRIMAS_FINALIZERS_OK;)
             for (size_t n = 0; n < count; n++)
                 found_by(r, it, some[n]);
+    grow(r, r->found, r->found);
 }
 
 static reading read_heap(const heap *it)
 {
     reading r;
     derrimas_finalizers_registration_at registration;
-    uint64_t target;
 
     memset(&r, 0, sizeof r);
     read_found(&r, it);
-    memset(r.leads, 0, sizeof r.leads);
+    read_words(&r, it, r.found);
     for (unsigned a = 0; a < it->count; a++) {
-        for (unsigned n = 0; n < it->words[a]; n++) {
-            const bool is_linked = derrimas_finalizers_target(&it->finalizers, DERRIMAS_FINALIZERS_SHORT, word_number(it, a, n), &target) == DERRIMAS_FINALIZERS_OK;
-
-            if (it->child[a][n] && !(is_linked && !r.found[index_of(target)]))
-                r.first[a][it->child[a][n] - 1] = r.leads[a][it->child[a][n] - 1] = true;
-        }
         r.is_registered[a] = derrimas_finalizers_registration(&it->finalizers, number(a), &registration) == DERRIMAS_FINALIZERS_OK;
         r.kind[a] = r.is_registered[a] ? registration.kind : DERRIMAS_FINALIZERS_NORMAL;
     }
-    close_over(r.leads);
     return r;
 }
 
-/* A first step of an object counts towards another. */
-static bool steps(const reading *r, unsigned from, unsigned to, unsigned towards)
-{
-    const bool counts_all = from != towards && r->kind[towards] == DERRIMAS_FINALIZERS_UNREACHABLE;
+static bool is_lost(const reading *r, unsigned object) { return r->is_registered[object] && !r->found[object]; }
 
-    if (!r->first[from][to])
-        return false;
-    return counts_all || (r->kind[from] != DERRIMAS_FINALIZERS_NO_ORDER && !(r->kind[from] == DERRIMAS_FINALIZERS_IGNORE_SELF && to == from));
+/* A first step of an object counts by its kind. */
+static bool is_first(const reading *r, unsigned from, unsigned to)
+{
+    return r->child[from][to] && r->kind[from] != DERRIMAS_FINALIZERS_NO_ORDER && !(r->kind[from] == DERRIMAS_FINALIZERS_IGNORE_SELF && to == from);
 }
 
-static bool holds(const reading *r, unsigned from, unsigned object)
+static void add_firsts(const reading *r, unsigned from, bool set[MOST])
 {
-    if (!r->is_registered[from] || r->found[from])
-        return false;
-    for (unsigned b = 0; b < MOST; b++)
-        if (steps(r, from, b, object) && r->leads[b][object])
-            return true;
-    return false;
+    for (unsigned to = 0; to < MOST; to++)
+        set[to] |= is_first(r, from, to);
+}
+
+/* What an object holds by its first steps, with what was found. */
+static void held_by(const reading *r, unsigned from, bool set[MOST])
+{
+    memset(set, 0, MOST * sizeof *set);
+    add_firsts(r, from, set);
+    grow(r, set, r->found);
+}
+
+/* What all lost objects hold together toward an object: by their first steps, and by themselves, if this one alone is of kind UNREACHABLE. */
+static void held_toward(const reading *r, unsigned object, bool set[MOST])
+{
+    const bool is_late = r->kind[object] == DERRIMAS_FINALIZERS_UNREACHABLE;
+
+    memset(set, 0, MOST * sizeof *set);
+    for (unsigned from = 0; from < MOST; from++)
+        if (is_lost(r, from)) {
+            add_firsts(r, from, set);
+            set[from] |= is_late && r->kind[from] != DERRIMAS_FINALIZERS_UNREACHABLE;
+        }
+    grow(r, set, r->found);
+}
+
+static bool is_on_ring(const reading *r, unsigned object)
+{
+    bool held[MOST];
+
+    held_by(r, object, held);
+    return is_lost(r, object) && held[object];
 }
 
 static bool has_entry(const heap *it, unsigned object)
@@ -587,35 +767,45 @@ static bool has_entry(const heap *it, unsigned object)
 
 static derrimas_why_reason reason_of(const reading *r, const heap *it, unsigned object)
 {
+    bool held[MOST];
+
     if (!r->is_registered[object])
         return has_entry(it, object) ? DERRIMAS_WHY_QUEUED : DERRIMAS_WHY_UNREGISTERED;
     if (r->found[object])
         return DERRIMAS_WHY_FOUND;
-    if (holds(r, object, object))
+    if (is_on_ring(r, object))
         return DERRIMAS_WHY_RING;
-    for (unsigned from = 0; from < it->count; from++)
-        if (from != object && holds(r, from, object))
-            return DERRIMAS_WHY_WAITS;
-    return DERRIMAS_WHY_READY;
+    held_toward(r, object, held);
+    return held[object] ? DERRIMAS_WHY_WAITS : DERRIMAS_WHY_READY;
 }
 
-/* What never becomes ready, however often what is ready goes. */
+/* What never becomes ready where there are no ephemerons, however often what is ready goes; where there are, what the objects on rings hold together. */
 static void read_stuck(const reading *r, const heap *it, bool left[MOST])
 {
-    bool is_smaller = true;
+    bool is_smaller = r->row_count == 0, behind[MOST] = {false}, held[MOST];
 
     for (unsigned a = 0; a < MOST; a++)
-        left[a] = r->is_registered[a] && !r->found[a];
+        left[a] = is_lost(r, a);
     while (is_smaller) {
+        memset(held, 0, sizeof held);
+        for (unsigned from = 0; from < it->count; from++)
+            if (left[from])
+                add_firsts(r, from, held);
+        grow(r, held, r->found);
         is_smaller = false;
         for (unsigned a = 0; a < it->count; a++) {
-            bool is_held = false;
-
-            for (unsigned from = 0; from < it->count; from++)
-                is_held |= left[from] && holds(r, from, a);
-            is_smaller |= left[a] && !is_held;
-            left[a] &= is_held;
+            is_smaller |= left[a] && !held[a];
+            left[a] &= held[a];
         }
+    }
+    for (unsigned a = 0; a < it->count; a++)
+        if (is_on_ring(r, a))
+            add_firsts(r, a, behind);
+    grow(r, behind, r->found);
+    for (unsigned a = 0; a < it->count; a++) {
+        behind[a] &= is_lost(r, a);
+        IS(r->row_count > 0 || behind[a] == left[a], true);
+        left[a] = behind[a];
     }
 }
 
@@ -644,31 +834,45 @@ static uint64_t root_word(const heap *it)
     }
 }
 
-static bool is_child(const heap *it, unsigned from, unsigned to)
+/* A step goes by a word, or to the value of an ephemeron, from its key or from the object that has its word, where both are held. */
+static bool is_step(const reading *r, const bool held[MOST], unsigned from, unsigned to)
 {
-    for (unsigned n = 0; n < it->words[from]; n++)
-        if (it->child[from][n] == to + 1)
+    if (r->child[from][to])
+        return true;
+    for (unsigned n = 0; n < r->row_count; n++) {
+        const row *row = &r->rows[n];
+
+        if (row->value == to && (row->key == from || row->holder == from) && (held[row->key] || r->found[row->key]) && (held[row->holder] || r->found[row->holder]))
             return true;
+    }
     return false;
 }
 
-/* The path goes by words: for what is reachable by all of them, and else by those that aren't cut, first by one that counts. */
+/* The path goes by words and values: for what is reachable by all of them, and else by those that aren't cleared, first by a step that counts. */
 static bool is_right_path(const reading *r, const heap *it, unsigned object)
 {
     const bool is_found = answer.reason == DERRIMAS_WHY_FOUND;
+    reading all = *r;
+    bool held[MOST];
 
     if (answer.length == 0 || path[answer.length - 1] != number(object) || (is_found && path[0] != root_word(it)))
         return false;
+    if (is_found)
+        read_words(&all, it, NULL);
+    if (answer.reason == DERRIMAS_WHY_RING)
+        held_by(r, object, held);
+    else
+        held_toward(r, object, held);
     for (size_t n = 0; n + 1 < answer.length; n++) {
         const unsigned from = index_of(path[n]), to = index_of(path[n + 1]);
+        const bool counts_all = answer.reason == DERRIMAS_WHY_WAITS && r->kind[object] == DERRIMAS_FINALIZERS_UNREACHABLE && r->kind[from] != DERRIMAS_FINALIZERS_UNREACHABLE;
 
-        if (!(is_found ? is_child(it, from, to) : n == 0 ? steps(r, from, to, object) : r->first[from][to]))
+        if (!(is_found || n > 0 || counts_all ? is_step(is_found ? &all : r, held, from, to) : is_first(r, from, to)))
             return false;
     }
     if (is_found)
         return true;
-    return answer.length > 1 && r->is_registered[index_of(path[0])] && !r->found[index_of(path[0])]
-           && (path[0] == number(object)) == (answer.reason == DERRIMAS_WHY_RING);
+    return answer.length > 1 && is_lost(r, index_of(path[0])) && (path[0] == number(object)) == (answer.reason == DERRIMAS_WHY_RING);
 }
 
 static bool is_registered(const heap *it, unsigned object)
@@ -703,6 +907,12 @@ static void make_finalizers(heap *it)
             OK(derrimas_finalizers_link(&it->finalizers, below(4) ? DERRIMAS_FINALIZERS_SHORT : DERRIMAS_FINALIZERS_LONG, word_number(it, holder, below(it->words[holder])),
                                         number(below(it->count)), NULL));
     }
+    for (unsigned n = below(2) ? below(7) : 0; n > 0; n--) {
+        const unsigned holder = below(it->count);
+
+        if (it->words[holder])
+            keyed(it, below(2) ? DERRIMAS_FINALIZERS_SHORT : DERRIMAS_FINALIZERS_LONG, holder, below(it->words[holder]), below(it->count));
+    }
     if (below(4) == 0)
         OK(derrimas_finalizers_add_cleanup(&it->finalizers, number(below(it->count)), DERRIMAS_FINALIZERS_LONG, 7, some_data(it), 0, NULL));
 }
@@ -722,7 +932,7 @@ static void make_graph(heap *it)
         it->roots[n] = below(3) == 0 ? 1 + below(it->count) : 0;
 }
 
-static unsigned reasons[ALL], stuck;
+static unsigned reasons[ALL], stuck, with_rows, by_rows; /* graphs that have ephemerons, and answers that are others without them */
 
 /* Just those that never become ready are listed, in the order of the registrations. */
 static void look_for_stuck(heap *it, const reading *r)
@@ -750,6 +960,10 @@ static void look(heap *it)
 {
     const reading r = read_heap(it);
     bool ready[MOST] = {false};
+    reading without = r;
+
+    without.row_count = 0;
+    with_rows += r.row_count > 0;
 
     for (unsigned object = 0; object < it->count; object++) {
         const derrimas_why_reason reason = reason_of(&r, it, object);
@@ -760,6 +974,7 @@ static void look(heap *it)
             OK(ask(it, object));
         IS(answer.reason, reason);
         reasons[reason]++;
+        by_rows += reason_of(&without, it, object) != reason;
         ready[object] = reason == DERRIMAS_WHY_READY;
         if (reason == DERRIMAS_WHY_FOUND || reason == DERRIMAS_WHY_WAITS || reason == DERRIMAS_WHY_RING)
             IS(is_right_path(&r, it, object), true);
@@ -786,6 +1001,11 @@ int main(int count, char **arguments)
     held_data();
     for (unsigned way = 0; way < 3; way++)
         cut(way);
+    for (unsigned way = 0; way < 3; way++)
+        values(way);
+    two_hold_a_value();
+    key_of_unreachable();
+    word_elsewhere();
     kinds();
     refusals();
     little_memory();
@@ -805,7 +1025,8 @@ int main(int count, char **arguments)
         IS(blocks, 0);
     }
     IS(stuck > graphs / 20, true);
-    printf("%u graphs, %u with rings: ", graphs, stuck);
+    IS(with_rows > graphs / 4 && by_rows > graphs / 200, true);
+    printf("%u graphs, %u with rings, %u with ephemerons, by which %u answers differ: ", graphs, stuck, with_rows, by_rows);
     for (int reason = 0; reason < ALL; reason++) {
         IS(reasons[reason] > graphs / 20, true);
         printf("%u %s%s", reasons[reason], derrimas_finalizers_reason_name((derrimas_why_reason)reason), reason + 1 < ALL ? ", " : "\n");

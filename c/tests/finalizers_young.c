@@ -1,5 +1,5 @@
 /* Passes of derrimas_finalizers.h over registrations and cleanups from a number on: beside whole passes over the same graphs of chance, whose old objects are marked; what
- * happens where one isn't; each refusal. All of this with the option `marks` too.
+ * happens where one isn't; each refusal. All of this with the options `marks` and `live` too.
  */
 #include "finalizers_host.h"
 #include <stdlib.h>
@@ -23,7 +23,7 @@ static uint64_t chance(uint64_t below)
 
 static void opens(struct world *it)
 {
-    const derrimas_finalizers_options options = {sizeof options, {NULL, NULL, NULL, NULL}, by_regions};
+    const derrimas_finalizers_options options = {sizeof options, {NULL, NULL, NULL, NULL}, by_regions, by_regions};
 
     memset(it, 0, sizeof *it);
     OK(derrimas_finalizers_open(&it->finalizers, &options));
@@ -173,8 +173,7 @@ static void refused(void)
 static void both(void)
 {
     refused();
-    if (!by_regions)
-        each_number();
+    each_number();
     IS(beside_whole_passes() > GRAPHS, true);
 }
 

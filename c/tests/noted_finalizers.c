@@ -28,11 +28,11 @@ void noted_finalizers_run(const derrimas_finalizers_entry *it) { noted_procedure
 void noted_queued(uint64_t pass, uint64_t count) { noted_procedure("host.queued" N N, pass, count); }
 void noted_finished(const derrimas_finalizers_entry *it) { noted_procedure("host.finished" ENTRY, OF_ENTRY(it)); }
 
-static bool asked_marks; /* the last question was about regions: the next call notes their words */
+static bool asked_regions; /* the last question was about regions: the next call notes their words */
 
-uint8_t fz_machine_open(derrimas_finalizers *f, bool marks)
+uint8_t fz_machine_open(derrimas_finalizers *f, bool marks, bool live)
 {
-    uint8_t code = noted(marks ? "open marks" : "open");
+    uint8_t code = noted("open%s%s", marks ? " marks" : "", live ? " live" : "");
     rattle_tried tried;
 
     if (code != DERRIMAS_FINALIZERS_OK)
@@ -132,21 +132,21 @@ uint8_t fz_machine_cancel(derrimas_finalizers *f, uint64_t number, derrimas_fina
 uint8_t fz_machine_begin(derrimas_finalizers *f, uint64_t from)
 {
     (void)f;
-    asked_marks = false;
+    asked_regions = false;
     return from ? noted("begin" N, from) : noted("begin");
 }
 
-static derrimas_ask ask_of(uint64_t value) { return value == 9 ? DERRIMAS_ASK_MARK_VALUE : (derrimas_ask)(value % 8 + 1); }
+static derrimas_ask ask_of(uint64_t value) { return (derrimas_ask)(value % DERRIMAS_ASK_MARK_VALUE + 1); }
 
 /* A question about two objects, whose kind follows from the value. At the end of a pass what it did. */
 uint8_t fz_machine_next(derrimas_finalizers *f, uint64_t answers, derrimas_question *question, derrimas_finalizers_passed *passed)
 {
-    uint8_t code = asked_marks ? noted("next" N " marks" N N, answers, question->marks[0], question->marks[1]) : noted("next" N, answers);
+    uint8_t code = asked_regions ? noted("next" N " marks" N N, answers, question->marks[0], question->marks[1]) : noted("next" N, answers);
 
     (void)f;
     if (code == DERRIMAS_FINALIZERS_EMPTY)
         *passed = (derrimas_finalizers_passed){V(0), V(1)};
-    asked_marks = code == DERRIMAS_FINALIZERS_OK && ask_of(V(0)) == DERRIMAS_ASK_MARKS;
+    asked_regions = code == DERRIMAS_FINALIZERS_OK && (ask_of(V(0)) == DERRIMAS_ASK_MARKS || ask_of(V(0)) == DERRIMAS_ASK_LIVE);
     return FILLED(code, question, derrimas_question, {V(0), V(1)}, 2, ask_of(V(0)), {0});
 }
 
@@ -253,8 +253,17 @@ uint8_t fz_snapshot_open(fz_snapshot *s)
 }
 
 void fz_snapshot_destroy(fz_snapshot *s) { s->inside = NULL; }
-uint8_t fz_snapshot_object(fz_snapshot *s, uint64_t object, uint64_t value, uint64_t link) { return (void)s, noted("snapshot_object" N N N, object, value, link); }
-uint8_t fz_snapshot_word(fz_snapshot *s, uint64_t word, uint64_t value, uint64_t link) { return (void)s, noted("snapshot_word" N N N, word, value, link); }
+
+uint8_t fz_snapshot_object(fz_snapshot *s, uint64_t object, uint64_t value, uint64_t link, bool is_ephemeron)
+{
+    return (void)s, noted("snapshot_object" N N N " %d", object, value, link, is_ephemeron);
+}
+
+uint8_t fz_snapshot_word(fz_snapshot *s, uint64_t word, uint64_t value, uint64_t link, bool is_ephemeron)
+{
+    return (void)s, noted("snapshot_word" N N N " %d", word, value, link, is_ephemeron);
+}
+
 uint8_t fz_snapshot_root(fz_snapshot *s, uint64_t word) { return (void)s, noted("snapshot_root" N, word); }
 uint8_t fz_snapshot_holder(fz_snapshot *s, uint64_t word, uint64_t *object) { return (void)s, FILLED(noted("snapshot_holder" N, word), object, uint64_t, V(0)); }
 uint8_t fz_snapshot_step(fz_snapshot *s, uint64_t index, uint64_t *object) { return (void)s, FILLED(noted("snapshot_step" N, index), object, uint64_t, V(10) + index); }

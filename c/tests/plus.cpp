@@ -295,14 +295,23 @@ static void passes_of_finalizers()
     IS(collected(f, heap).picked == 0 && heap.outside == 0 && f.count().long_links == 0 && f.count().passes == 4);
 }
 
-/* The same, whose objects are told apart by regions, each of which has one place with an object here. */
+/* The same, whose objects are told apart by regions, each of which has one place with an object here; and so are words, each 16 of which are those of an object. */
 struct heap_of_regions : small_heap {
-    unsigned words_asked = 0;
+    unsigned words_asked = 0, live_asked = 0;
 
     std::uint64_t marks(std::uint64_t first)
     {
         words_asked++;
         return first < 16 && marked[first] ? 1 : 0;
+    }
+    std::uint64_t live(std::uint64_t first)
+    {
+        std::uint64_t word = 0;
+
+        live_asked++;
+        for (std::uint64_t n = 0; n < 16; n++)
+            word |= static_cast<std::uint64_t>(marked[n]) << n;
+        return first == 0 ? word : 0;
     }
 };
 
@@ -323,12 +332,44 @@ static void regions_of_finalizers()
     IS(moved.pass(heap).picked == 1 && heap.words_asked == 2 && moved.take()->obj == 3);
     {
         fin::open_pass pass(moved);
-        IS(pass.next(0, &question) && question.ask == DERRIMAS_ASK_MARKS && question.count >= 1 && question.what[0] == 7);
+        IS(pass.next(0, &question) && question.ask == DERRIMAS_ASK_MARKS && question.count >= 1 && question.what[question.count - 1] == 7);
         IS(refusal([&] { fin::answers_of(lacking, question); }) == "BadOptions");
-        IS(fin::answers_of(heap, question) == 0 && question.marks[0] == 1 && !pass.next(0, &question) && pass.did().picked == 0);
+        IS(fin::answers_of(heap, question) == 0 && question.marks[question.count - 1] == 1 && !pass.next(0, &question) && pass.did().picked == 0);
     }
     heap.marked[7] = false;
     IS(moved.pass(heap).picked == 1 && moved.take()->obj == 7 && moved.count().registrations == 0);
+}
+
+/* Links from the words of objects 3 and 7, which both lead to object 5; and from object 8 to object 6. */
+static void regions_of_words()
+{
+    fin f({}, true, true);
+    heap_of_regions heap;
+    struct : small_heap {
+        std::uint64_t marks(std::uint64_t) { return 0; }
+    } lacking;
+    fin::question question;
+
+    f.link(fin::link_kind::short_link, 16 * 3, 5);
+    f.link(fin::link_kind::short_link, 16 * 7, 5);
+    f.link(fin::link_kind::long_link, 16 * 8, 6);
+    heap.words[16 * 8] = 6;
+    IS(refusal([&] { f.pass(lacking); }) == "BadOptions" && f.count().passes == 0);
+    heap.marked[3] = heap.marked[5] = heap.marked[8] = true;
+    IS(f.pass(heap).picked == 0 && heap.words_asked == 2 && heap.live_asked == 2 && heap.words[16 * 8] == 0);
+    IS(f.count().short_links == 1 && f.target(fin::link_kind::short_link, 16 * 3) == 5 && f.count().long_links == 0);
+    {
+        fin::open_pass pass(f);
+        IS(pass.next(0, &question) && question.ask == DERRIMAS_ASK_MARKS && question.count == 1 && question.what[0] == 5);
+        IS(fin::answers_of(heap, question) == 0 && question.marks[0] == 1 && pass.next(0, &question));
+        for (bool more = true; more && question.ask == DERRIMAS_ASK_MARKS; more = pass.next(0, &question))
+            IS(fin::answers_of(heap, question) == 0);
+        IS(question.ask == DERRIMAS_ASK_LIVE && question.count == 1 && question.what[0] == 0);
+        IS(refusal([&] { fin::answers_of(lacking, question); }) == "BadOptions");
+        IS(fin::answers_of(heap, question) == 0 && question.marks[0] == (1 << 3 | 1 << 5 | 1 << 8));
+    }
+    heap.marked[3] = false;
+    IS(f.pass(heap).picked == 0 && f.count().short_links == 0);
 }
 
 static void calls_of_finalizers()
@@ -645,6 +686,7 @@ int main()
     seats();
     passes_of_finalizers();
     regions_of_finalizers();
+    regions_of_words();
     calls_of_finalizers();
     cleanups_of_finalizers();
     ephemerons_of_finalizers();

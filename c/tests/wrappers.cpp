@@ -202,6 +202,7 @@ struct noting_host {
 /* The same, which also answers about regions, and marks values. */
 struct whole_host : noting_host {
     std::uint64_t marks(std::uint64_t first) const { return answer("marks", first) + 10 * first; }
+    std::uint64_t live(std::uint64_t first) const { return answer("live", first) + 10 * first; }
     bool mark_value(std::uint64_t word) { return answer("mark_value", word); }
 };
 
@@ -229,6 +230,8 @@ static finalizers opened_with(const string &memory)
     static bool refuses = true;
     if (memory == "marks")
         return finalizers({}, true);
+    if (memory == "live" || memory == "regions")
+        return finalizers({}, memory == "regions", true);
     return finalizers(finalizers::allocator{allocated, reallocated, memory == "lacking" ? nullptr : released, memory == "refuses" ? &refuses : nullptr});
 }
 
@@ -239,7 +242,7 @@ static string reserved(finalizers &f, const arguments &a)
     return "done";
 }
 
-/* A pass by a host that lacks `marks` and `mark_value` or has them, over finalizers that were opened with `marks` where the row says so. */
+/* A pass by a host that lacks `marks`, `live` and `mark_value` or has them, over finalizers that were opened with `marks` or `live` where the row says so. */
 static string pass_over(finalizers &f, const arguments &a)
 {
     finalizers own = a.words.size() > 1 ? opened_with(a.words[1]) : std::move(f);

@@ -172,9 +172,15 @@ class Host:
     def holder_is_marked(self, word):
         return self._answer(b'holder_is_marked', word)
 
-    def marks(self, first):
-        answer = self._answer(b'marks', first) + 10 * first
+    def _word(self, what, first):
+        answer = self._answer(what, first) + 10 * first
         return str(answer) if self.how == 'text' else answer
+
+    def marks(self, first):
+        return self._word(b'marks', first)
+
+    def live(self, first):
+        return self._word(b'live', first)
 
     def mark_value(self, word):
         return self._answer(b'mark_value', word)
@@ -196,8 +202,8 @@ class Host:
 
 def opened_with(how=None):
     """Finalizers with an allocator that is so: one that is `lacking` has no function. Or ones that ask about regions."""
-    if how == 'marks':
-        return over.Finalizers(marks=True)
+    if how in ('marks', 'live', 'regions'):
+        return over.Finalizers(**{name: True for name in ('marks', 'live') if how in (name, 'regions')})
     return over.Finalizers(object() if how == 'lacking' else Host(how)) if how else over.Finalizers()
 
 
@@ -281,11 +287,11 @@ def abandoned(finalizers, by_scope, start=0):
 
 class Lacking(Host):
     """The same without the answers about regions and values."""
-    marks = mark_value = property()  # reading it raises AttributeError
+    marks = live = mark_value = property()  # reading it raises AttributeError
 
 
 def passed(finalizers, how, opened=None):
-    """What a pass did, by a host that may be `lacking` marks and mark_value, over finalizers that may be opened with them."""
+    """What a pass did, by a host that may be `lacking` marks, live and mark_value, over finalizers that may be opened with them."""
     with opened_with(opened) if opened else contextlib.nullcontext(finalizers) as own:
         return shown(own.run_pass(Lacking('returns') if how == 'lacking' else Host(how)))
 

@@ -239,7 +239,7 @@ static value seen_step(const value *path, uint64_t n)
 }
 
 /* (why weak): the steps by which a variable, the stack or a finalizer leads to the object of a weak box or a weak pair, which is the last
- * of them; () if nothing leads to it, so that the next collection finds it lost, unless a weak table has it as the value of a key; #f if no
+ * of them, also by a row of a weak table whose key is kept; () if nothing leads to it, so that the next collection finds it lost; #f if no
  * object is in it. The list keeps the object. */
 static value why(value list)
 {

@@ -39,10 +39,10 @@ enum type {
     WEAK_PAIR, /* a weak box with the first, rest */
     GUARDIAN,  /* the first and the last FINALIZER that it has, or NIL */
     TABLE,     /* of a weak table: a list of ROWs */
+    ROW,       /* a key and its value, or NOTHING since the key is gone */
     PART,      /* the part of the stack below it, or NIL; values */
     GLOBAL,    /* for each symbol a pair, whose first is the value where the environment has none */
-    FINALIZER, /* the procedure or the guardian, the object since it is gone, the next one */
-    ROW        /* a key and its value, or NOTHING since the key is gone */
+    FINALIZER  /* the procedure or the guardian, the object since it is gone, the next one */
 };
 
 /* Those before PART stand in a table of names, and then the symbols: the forms' first, then the builtins'. A

@@ -8,7 +8,7 @@ enum { MOST_NAME = 40, DEEPEST = 200, LONGEST = 1000, MOST_PRINTED = 2000 };
 
 /* The names of constants, types and symbols. A symbol stays for good. */
 static char names[MOST_SYMBOLS][MOST_NAME + 1] = {
-    "no value", "()", "#t", "#f", "nothing", "a pair", "a procedure", "a string", "a port", "a weak box", "a weak pair", "a guardian", "a weak table",
+    "no value", "()", "#t", "#f", "nothing", "a pair", "a procedure", "a string", "a port", "a weak box", "a weak pair", "a guardian", "a weak table", "a row",
 };
 
 value intern(const char *name)

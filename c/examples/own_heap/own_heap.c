@@ -169,7 +169,7 @@ static void mark_roots_of_finalizers(own_heap *heap, derrimas_finalizers_root so
 
 size_t own_heap_collect(own_heap *heap)
 {
-    static const derrimas_host host = {is_marked, mark_children, mark, mark_alone, clear, holder_is_marked, NULL, mark_value};
+    static const derrimas_host host = {is_marked, mark_children, mark, mark_alone, clear, holder_is_marked, NULL, NULL, mark_value};
 
     for (size_t n = 0; n < heap->root_count; n++)
         mark_word(heap, heap->roots[n]);
@@ -183,15 +183,18 @@ size_t own_heap_collect(own_heap *heap)
 
 /* ---- why an object isn't finalized */
 
+/* By a word of an object that isn't scanned it points only if the word is an ephemeron. */
 static bool child_of(void *data, uint64_t what, uint64_t n, uint64_t *word, uint64_t *child)
 {
+    const own_heap *heap = data;
     const object *it = object_at(what);
+    uint64_t key;
 
-    (void)data;
-    if (!it->is_scanned || n >= it->count)
+    if (n >= it->count)
         return false;
     *word = n < OWN_HEAP_LINK_WORDS ? own_heap_word(it->words, n) : 0;
-    *child = is_address(it->words[n]) ? it->words[n] : 0;
+    if (is_address(it->words[n]) && (it->is_scanned || derrimas_finalizers_key(&heap->finalizers, *word, NULL, &key) == DERRIMAS_FINALIZERS_OK))
+        *child = it->words[n];
     return true;
 }
 

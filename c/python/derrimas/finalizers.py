@@ -14,8 +14,8 @@
 
 Objects, words, procedures and client data are numbers below 2^64, and ranks are below 256; of other numbers the lowest 64 or 8 bits count. The heap answers a
 pass by six methods: is_marked(object), mark_children(object, but_itself), mark(object), mark_alone(object), clear(word), holder_is_marked(word). Over
-Finalizers(marks=True) it has marks(first) too, the word of a region of objects, and with ephemerons mark_value(word), which returns whether something may
-have been marked. A refused call raises Refused, whose text is the library's sentence. Use
+Finalizers(marks=True) it has marks(first) too, the word of a region of objects, over Finalizers(live=True) live(first), that of a region of words, and with
+ephemerons mark_value(word), which returns whether something may have been marked. A refused call raises Refused, whose text is the library's sentence. Use
 Finalizers from one thread at a time. The library is libderrimas.so.1: that of the package, or the file that the variable DERRIMAS names."""
 from __future__ import annotations
 import contextlib, ctypes, enum
@@ -55,8 +55,7 @@ class Root(enum.IntEnum):
 
 class Ask(enum.IntEnum):
     """What a question asks of each of its objects, words or regions."""
-    IS_MARKED, MARK_CHILDREN, MARK_OTHERS, MARK, MARK_ALONE, CLEAR, HOLDER_IS_MARKED, MARKS = range(1, 9)
-    MARK_VALUE = 10
+    IS_MARKED, MARK_CHILDREN, MARK_OTHERS, MARK, MARK_ALONE, CLEAR, HOLDER_IS_MARKED, MARKS, LIVE, MARK_VALUE = range(1, 11)
 
 
 class Reason(enum.IntEnum):
@@ -84,9 +83,9 @@ CHILD = CFUNCTYPE(c_bool, c_void_p, c_uint64, c_uint64, POINTER(c_uint64), POINT
 ROOT = CFUNCTYPE(c_bool, c_void_p, c_uint64, POINTER(c_uint64))
 IS_OBJECT = CFUNCTYPE(c_bool, c_void_p, c_uint64)
 Allocator = struct("Allocator", "An allocator's functions, in C.", ("allocate", ALLOCATE), ("reallocate", REALLOCATE), ("release", RELEASE), ("data", c_void_p))
-Options = struct("Options", "What a handle is opened with.", ("size", c_size_t), ("allocator", Allocator), ("marks", c_bool))
+Options = struct("Options", "What a handle is opened with.", ("size", c_size_t), ("allocator", Allocator), ("marks", c_bool), ("live", c_bool))
 Handle = struct("Handle", "What stands for finalizers in C.", ("inside", c_void_p), "waiting", ("allocator", Allocator), ("trace", c_void_p), ("ages", c_uint64 * 11),
-                ("asks_marks", c_bool))
+                ("asks_marks", c_bool), ("asks_live", c_bool))
 Old = struct("Old", "A registration or a cleanup that went away, if there `was` one.", "proc", "cd", ("was", c_bool))
 Registered = struct("Registered", "A new registration: its number, and what it replaced.", "number", ("replaced", Old))
 Entry = struct("Entry", "An entry of the queue: its place, its pass, its registration or cleanup, its object (0 of a cleanup), procedure and client data.",
@@ -163,16 +162,16 @@ class Finalizers:
 
     An allocator has the methods allocate(size), reallocate(memory, size) and release(memory), whose memory are addresses; None is no memory. What one raises
     is raised by the call in which it came, once that has ended, and counts as no memory; so does what is no address, as TypeError. With `marks` a pass asks
-    about regions of objects."""
+    about regions of objects, and with `live` about regions of words."""
 
-    def __init__(self, allocator: Any = None, marks: bool = False) -> None:
+    def __init__(self, allocator: Any = None, marks: bool = False, live: bool = False) -> None:
         self.handle = Handle()
         self.procedures: Dict[int, Callable[[Finalizers, Any], Any]] = {}
         self.raised: List[BaseException] = []
         memory = self._functions(Allocator, allocator) if allocator is not None else Allocator()
         if allocator is not None and not memory.allocate:
             raise Refused(BAD_OPTIONS)
-        self.options = Options(ctypes.sizeof(Options), memory, marks)
+        self.options = Options(ctypes.sizeof(Options), memory, marks, live)
         self._call("open", byref(self.options))
 
     def __enter__(self) -> Finalizers:
@@ -292,9 +291,10 @@ class Finalizers:
 
     def run_pass(self, host: Any, start: int = 0) -> Passed:
         """A whole pass, which the methods of the host answer. Where one raises, or a hook does before the end, the pass is abandoned: reclaim nothing before
-        the next one has ended. Finalizers that ask about regions refuse a host without `marks`, and those with ephemerons one without `mark_value`, as
-        BadOptions. With `start` it looks at registrations and cleanups from that number on."""
-        if (self.handle.asks_marks and not hasattr(host, "marks")) or (not hasattr(host, "mark_value") and self._has_ephemerons()):
+        the next one has ended. Finalizers that ask about regions refuse a host without `marks` or `live`, and those with ephemerons one without
+        `mark_value`, as BadOptions. With `start` it looks at registrations and cleanups from that number on."""
+        lacking = [name for name, is_asked in (("marks", self.handle.asks_marks), ("live", self.handle.asks_live)) if is_asked and not hasattr(host, name)]
+        if lacking or (not hasattr(host, "mark_value") and self._has_ephemerons()):
             raise Refused(BAD_OPTIONS)
         with self.open_pass(start) as questions:
             question = questions.next()
@@ -307,9 +307,9 @@ class Finalizers:
         return not LIBRARY.derrimas_finalizers_count(byref(self.handle), byref(counts)) and counts.short_ephemerons + counts.long_ephemerons > 0
 
     def why(self, object: int, host: Any) -> Why:
-        """Why an object isn't finalized, by the methods of the host: children(object) yields for each of its words the word's number, or 0, and the object to
-        which it points, or 0; roots() yields the objects to which roots point; is_object(client_data) says whether that is an object. What one raises is raised
-        here."""
+        """Why an object isn't finalized, by the methods of the host: children(object) yields for each of its words, those of ephemerons among them, the word's
+        number, or 0, and the object to which it points, or 0; roots() yields the objects to which roots point; is_object(client_data) says whether that is an
+        object. What one raises is raised here."""
         told = CWhy()
 
         def call(paths: Any, path: Any, room: int) -> int:
@@ -517,7 +517,7 @@ class OpenPass:
 
     def next(self, answers: Answers = 0) -> Optional[Question]:
         """Takes the answers to the question before, at first any number, and returns the next; None where the pass has ended: `did` is what it did then. The
-        answers are a number, and after Ask.MARKS a list with a word for each region: ValueError otherwise, since an object whose mark is missing would be
+        answers are a number, and after Ask.MARKS and Ask.LIVE a list with a word for each region: ValueError otherwise, since an object whose mark is missing would be
         finalized."""
         if isinstance(answers, int) == bool(self.regions) or (self.regions and len(answers) != self.regions):
             raise ValueError(f"the answers are to be {self.regions} words of regions" if self.regions else "the answers are to be a number")
@@ -530,7 +530,7 @@ class OpenPass:
         self.finalizers._raise()
         if code not in (0, EMPTY):
             raise Refused(code)
-        self.regions = asked.count if self.is_open and asked.ask == Ask.MARKS else 0
+        self.regions = asked.count if self.is_open and asked.ask in (Ask.MARKS, Ask.LIVE) else 0
         return Question(asked) if self.is_open else None
 
     def abandon(self) -> None:
@@ -549,8 +549,8 @@ def truth(answer: Any) -> bool:
 def answers_of(host: Any, question: Question) -> Answers:
     """The answers to a question by the methods of a host: bit i is the answer about what[i], and item i of a list is the word of the region what[i]. What is only
     to be done has none."""
-    if question.ask == Ask.MARKS:
-        return [host.marks(first) for first in question.what]
+    if question.ask in (Ask.MARKS, Ask.LIVE):
+        return [(host.marks if question.ask == Ask.MARKS else host.live)(first) for first in question.what]
     if question.ask in (Ask.IS_MARKED, Ask.HOLDER_IS_MARKED, Ask.MARK_VALUE):
         asked = getattr(host, {Ask.IS_MARKED: "is_marked", Ask.HOLDER_IS_MARKED: "holder_is_marked"}.get(question.ask, "mark_value"))
         return sum(truth(asked(what)) << n for n, what in enumerate(question.what))

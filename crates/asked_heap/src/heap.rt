@@ -118,8 +118,8 @@ impl Heap {
             Ask::Mark => self.mark(about),
             Ask::MarkAlone => self.mark_alone(about),
             Ask::Clear => self.clear(about),
-            // Only finalizers with regions ask the first, and only those with ephemerons the second.
-            Ask::Marks | Ask::MarkValue => {}
+            // Only finalizers with regions ask the first two, and only those with ephemerons the third.
+            Ask::Marks | Ask::Live | Ask::MarkValue => {}
         }
         false
     }

@@ -1,12 +1,14 @@
--- What a machine is told of its last question, where that is about regions, and where it is about items.
-use Rattle.std.proofs.Common.{◌≡◌, ◌∙◌, ℕ, Bool, List, [], ◌++◌, take, ap, sym}
-use Rattle.std.proofs.lemmas.List.{append-nil}
-use Rattle.fz_machine.specs.Machines.{Machine}
-use Rattle.fz_machine.specs.Regions.{marks_say}
-use Rattle.fz_c.specs.MachinePassing.{heard}
+-- What a machine hears from C.
+use Rattle.std.proofs.Common.{◌≡◌, ◌<◌, [], ◌∷◌, ℕ, Bool, List, length, take, ap, refl, arith}
+use Rattle.fz_machine.specs.Machines.{Answers, Machine, Words}
+use Rattle.fz_c.specs.MachinePassing.{heard, heard_of}
 
-pub of_regions : (m : Machine) (bits : List Bool) (words : List ℕ) → m.asked ≡ 0 → marks_say m.finalizers.state m.regions words ≡ heard m bits words
-of_regions m bits words none = sym (ap (λ n. take n bits ++ marks_say m.finalizers.state m.regions words) none)
+-- after a question about regions it hears words
+pub of_regions : (regions : List ℕ) (asked : ℕ) (bits : List Bool) (words : List ℕ) → 0 < length regions → Words words ≡ heard_of regions asked bits words
+of_regions [] asked bits words some = absurd (omega (arith, some))
+of_regions (region ∷ regions) asked bits words some = refl
 
-pub of_items : (m : Machine) (bits : List Bool) (words : List ℕ) → m.regions ≡ [] → take m.asked bits ≡ heard m bits words
-of_items m bits words none = sym (ap (λ regions. take m.asked bits ++ marks_say m.finalizers.state regions words) none ∙ append-nil (take m.asked bits))
+-- and else bits
+pub of_items : (regions : List ℕ) (asked : ℕ) (bits : List Bool) (words : List ℕ) → regions ≡ [] → Answers (take asked bits) ≡ heard_of regions asked bits words
+of_items [] asked bits words none = refl
+of_items (region ∷ regions) asked bits words none = absurd (let long = ap length none in omega (arith, long))

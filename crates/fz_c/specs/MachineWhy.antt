@@ -1,7 +1,6 @@
 -- Why an object isn't finalized, and which objects wait for a ring, as C gets it.
 -- code: fz_c/src/machine/asking.rt, stuck.rt
 use Rattle.std.specs.Prelude.{◌≡◌, ◌⊎◌, ℕ, List, [], length, Option, Some, None, Result, Ok, Err}
-use Rattle.fz_pass.specs.Marks.{AreRegistered, AreTargets}
 use Rattle.fz_finalizers.specs.declared.refused.Refused.TheVariants.{NoMemory}
 use Rattle.fz_machine.specs.declared.phase.Phase.{Phase}
 use Rattle.fz_machine.specs.declared.refused.Refused.{Refused}
@@ -11,9 +10,9 @@ use Rattle.fz_why.specs.declared.reason.Reason.{Reason}
 use Rattle.fz_why.specs.declared.reason.Reason.TheVariants.{Unregistered, Queued, Found, Ring, Waits, Ready}
 use Rattle.fz_why.specs.declared.reason.RootOf.{RootOf}
 use Rattle.fz_why.specs.declared.reason.RootOf.TheVariants.{Host, RegisteredData, CleanupData, HeldObject, HeldData}
-use Rattle.fz_why.specs.Snapshot.{Copy, objects_of, place_of}
+use Rattle.fz_why.specs.Copies.{AreStuckIn, IsToldIn}
+use Rattle.fz_why.specs.Snapshot.{Copy, HasAll, objects_of}
 use Rattle.fz_finalizers.specs.Walks.{registrations_in_order}
-use Rattle.fz_why.specs.Why.{AreStuck, IsToldOf, WithFound}
 use Rattle.fz_c.specs.declared.machine.asking.Told.{Told}
 use Rattle.fz_c.specs.declared.machine.codes.TheConstants.{OK, NOT_OPEN, NO_MEMORY, EMPTY}
 use Rattle.fz_c.specs.declared.machine.entries.HostEntry.{HostEntry}
@@ -54,11 +53,11 @@ Tells Ready told path = (told ≡ answer 5 0) × (path ≡ [])
 
 -- the reason is true of the object, by the copy
 abbrev pub IsTrueOf : ℕ → Machine → Copy → Reason → Type 0
-IsTrueOf object m copy reason = IsToldOf (place_of copy.cells copy.links) (objects_of copy.cells) copy.roots m.finalizers.state reason object
+IsTrueOf object m copy reason = IsToldIn copy m.finalizers.state reason object
 
--- the copy lacks a registered object, or the target of a short link
+-- the copy lacks a registered object, the target of a short link, or the key of a short ephemeron
 abbrev pub Lacks : Machine → Copy → Type 0
-Lacks m copy = AreRegistered (objects_of copy.cells) m.finalizers.state.registrations → AreTargets (objects_of copy.cells) m.finalizers.state.short → ⊥
+Lacks m copy = HasAll (objects_of copy.cells) m.finalizers.state → ⊥
 
 -- refused while a pass is open, and out of memory
 abbrev pub IsRefused : Machine → Refused → Type 0
@@ -80,8 +79,7 @@ Asks object m s t code old told =
 
 -- by the copy, these are the objects that wait for a ring
 abbrev pub AreStuckBy : Machine → Copy → List ℕ → Type 0
-AreStuckBy m copy objects =
-    WithFound (objects_of copy.cells) copy.roots m.finalizers.state (λ found. AreStuck (place_of copy.cells copy.links) (objects_of copy.cells) m.finalizers.state found (registrations_in_order m.finalizers) objects)
+AreStuckBy m copy objects = AreStuckIn copy m.finalizers.state (registrations_in_order m.finalizers) objects
 
 -- C gets how many wait for a ring, and the copy has them in place of a path; or both are unchanged
 abbrev pub ListsStuck : Machine → SnapshotSession → SnapshotSession → ℕ → ℕ → ℕ → Type 0

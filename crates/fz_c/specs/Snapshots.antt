@@ -3,7 +3,8 @@
 use Rattle.std.specs.Prelude.{◌≡◌, ◌⊎◌, ℕ, ◌-◌, ◌++◌, ◌&&◌, zero, suc, Bool, true, false, not, is_some, [], ◌∷◌, Option, Some, None, Result, Ok, Err, IfOk}
 use Rattle.fz_why.specs.declared.room.NoMemory.{NoMemory}
 use Rattle.fz_why.specs.declared.snapshot.listing.Cell.{Cell}
-use Rattle.fz_why.specs.Snapshot.{DoesOrNot, Keeps, Lists, holder_of, is_taken}
+use Rattle.fz_why.specs.declared.snapshot.listing.Listed.{Listed}
+use Rattle.fz_why.specs.Snapshot.{DoesOrNot, Keeps, Lists, cell_of, holder_of, is_taken}
 use Rattle.fz_c.specs.declared.machine.codes.TheConstants.{OK, IS_OPEN, NO_MEMORY, OVERLAP}
 use Rattle.fz_c.specs.declared.machine.snapshot.session.SnapshotSession.{SnapshotSession}
 
@@ -28,16 +29,16 @@ ListsCell s t reply word cell =
     DoesOrNot reply (Lists s.snapshot.cells t.snapshot.cells s.snapshot.links t.snapshot.links word cell) (Keeps s.snapshot.cells t.snapshot.cells s.snapshot.links t.snapshot.links)
     × (t.snapshot.roots ≡ s.snapshot.roots) × (t.path ≡ s.path)
 
-abbrev pub ListsObject : ℕ → ℕ → Option ℕ → ℕ → SnapshotSession → SnapshotSession → Type 0
-ListsObject object value link code s t =
-    (reply : Result Bool NoMemory) × (code ≡ code_for reply) × IfOk reply (λ done. done ≡ not (is_taken s.snapshot.cells s.snapshot.links object link))
-    × ListsCell s t reply object (record { object = object; value = value; link = link })
+abbrev pub ListsObject : ℕ → Listed → ℕ → SnapshotSession → SnapshotSession → Type 0
+ListsObject object listed code s t =
+    (reply : Result Bool NoMemory) × (code ≡ code_for reply) × IfOk reply (λ done. done ≡ not (is_taken s.snapshot.cells s.snapshot.links object listed.link))
+    × ListsCell s t reply object (cell_of object listed)
 
-abbrev pub ListsWord : ℕ → ℕ → Option ℕ → ℕ → SnapshotSession → SnapshotSession → Type 0
-ListsWord word value link code s t =
-    (reply : Result Bool NoMemory) × (code ≡ code_for reply) × IfOk reply (λ done. done ≡ (is_some (holder_of s.snapshot.cells (word - 1)) && not (is_taken s.snapshot.cells s.snapshot.links word link)))
+abbrev pub ListsWord : ℕ → Listed → ℕ → SnapshotSession → SnapshotSession → Type 0
+ListsWord word listed code s t =
+    (reply : Result Bool NoMemory) × (code ≡ code_for reply) × IfOk reply (λ done. done ≡ (is_some (holder_of s.snapshot.cells (word - 1)) && not (is_taken s.snapshot.cells s.snapshot.links word listed.link)))
     × DoesOrNot reply
-    ((object : ℕ) × (holder_of s.snapshot.cells (word - 1) ≡ Some object) × Lists s.snapshot.cells t.snapshot.cells s.snapshot.links t.snapshot.links word (record { object = object; value = value; link = link }))
+    ((object : ℕ) × (holder_of s.snapshot.cells (word - 1) ≡ Some object) × Lists s.snapshot.cells t.snapshot.cells s.snapshot.links t.snapshot.links word (cell_of object listed))
     (Keeps s.snapshot.cells t.snapshot.cells s.snapshot.links t.snapshot.links)
     × (t.snapshot.roots ≡ s.snapshot.roots) × (t.path ≡ s.path)
 

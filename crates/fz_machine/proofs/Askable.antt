@@ -16,12 +16,14 @@ use Rattle.fz_machine.specs.declared.item.Item.{Item}
 use Rattle.fz_machine.specs.declared.phase.Moment.{Moment}
 use Rattle.fz_machine.specs.declared.phase.Moment.TheVariants as moments
 use Rattle.fz_machine.specs.declared.phase.Phase.{Phase}
-use Rattle.fz_machine.specs.declared.phase.Phase.TheVariants.{Keys, KeysAgain, Holders, Values, ShortCleanups, ShortTargets, ShortWords, ShortKeys, ShortKeyWords, Objects, Children, Again, Picks, LateAgain, LatePicks, LongTargets, LongWords, LongKeys, LongKeyWords, ShortHolders, LongHolders, ShortKeyHolders, LongKeyHolders, LongCleanups}
+use Rattle.fz_machine.specs.declared.phase.Phase.TheVariants.{Keys, KeysAgain, Holders, Values, Regions, ShortCleanups, ShortTargets, ShortWords, ShortKeys, ShortKeyWords, Objects, Children, Again, Picks, LateAgain, LatePicks, LongTargets, LongWords, LongKeys, LongKeyWords, ShortHolders, LongHolders, ShortKeyHolders, LongKeyHolders, LongCleanups}
 use Rattle.fz_machine.specs.declared.question.Ask.TheVariants.{MarkAlone}
 use Rattle.fz_machine.specs.Graph.{Graph, CanMark, MayAsk, MayBeAsked, graph_of}
+use Rattle.fz_machine.specs.Machines.{going_of}
 use Rattle.fz_machine.specs.Off.{PutOff, put_off}
-use Rattle.fz_machine.specs.Phases.{asks, child_ask, pick_ask, subject, after, keeps}
+use Rattle.fz_machine.specs.Phases.{ask_of, child_ask, pick_ask, subject, after, keeps}
 use Rattle.fz_machine.specs.Runs.{AreAskable, AsksRightly, AsksYoungRightly}
+use Rattle.fz_machine.specs.Steps.{Going}
 use Rattle.fz_machine.proofs.Begun.{HasBegun, late_led, late_there, normal, others_led, registered}
 use Rattle.fz_machine.proofs.Entered.{IsOfEither}
 use Rattle.fz_machine.proofs.Cleaning.{after_due}
@@ -30,11 +32,11 @@ use Rattle.fz_machine.proofs.Phased as phased
 use Rattle.fz_machine.proofs.Phased.{LeadsOn, PicksLate, PicksOn, clear, judged}
 use Rattle.fz_machine.proofs.Phasing.{kept_on}
 use Rattle.fz_machine.proofs.Choosing as choosing
-use Rattle.fz_machine.proofs.Ran.{none_old, where_it_is}
+use Rattle.fz_machine.proofs.Ran.{IsOn, none_old, where_it_is}
 use Rattle.fz_machine.proofs.Opening.{IsFollowing, IsIn, IsOpening, begin_found, keep}
 use Rattle.fz_machine.proofs.Rounds as rounds
 use Rattle.fz_machine.proofs.Waiting.{looks_may}
-use Rattle.fz_machine.proofs.Working.{apart}
+use Rattle.fz_machine.proofs.Working.{going_apart}
 
 child_may : (k : Kind) (o : ℕ) (h : Graph) → CanMark h o → MayBeAsked (child_ask k) o h
 child_may Normal o h can = can
@@ -84,17 +86,18 @@ module _ (E : Type 0) (word_of : ℕ → Option ℕ) (value : Map Object → ℕ
       (choosing.can_mark E word_of value clearly item.object h h p.are.objects p.are.closed (registered E word_of value b before begin item.object r here))
       (λ a leads. p.are.least a (late_led E word_of value b before begin p.first item.object r (late_there E word_of value b before begin p.first item.object on ∙ here) (ap not p.left_are.0.1) a leads))
 
-  settles_may : (moment : Moment) (phase : Phase) (s : State) (kept left aside : List Item) (off : PutOff) (item : Item) (h : Graph) → phased.IsSettling E word_of value b before moment phase s kept (item ∷ left) aside off h → MayBeAsked (asks phase item) (subject phase item) h
+  settles_may : (moment : Moment) (phase : Phase) (s : State) (kept left aside : List Item) (off : PutOff) (item : Item) (h : Graph) → phased.IsSettling E word_of value b before moment phase s kept (item ∷ left) aside off h → MayBeAsked (ask_of phase item) (subject phase item) h
   settles_may moments.First phase s kept left aside off item h p = absurd p
   settles_may moments.Led phase s kept left aside off item h (w, p) = looks_may E word_of value clearly (judged E word_of value b before) w.marked phase kept left off item h p
   settles_may moments.Picked phase s kept left aside off item h (w, p) = looks_may E word_of value clearly (judged E word_of value b before) w.marked phase kept left off item h p
   settles_may moments.Last phase s kept left aside off item h (w, p) = looks_may E word_of value clearly (judged E word_of value b before) w.marked phase kept left off item h p
 
-  may : (phase : Phase) (s : State) (kept left aside : List Item) (off : PutOff) (item : Item) (h : Graph) → phased.IsIn E word_of value b before phase s kept (item ∷ left) aside off h → MayBeAsked (asks phase item) (subject phase item) h
+  may : (phase : Phase) (s : State) (kept left aside : List Item) (off : PutOff) (item : Item) (h : Graph) → phased.IsIn E word_of value b before phase s kept (item ∷ left) aside off h → MayBeAsked (ask_of phase item) (subject phase item) h
   may (Keys moment) s kept left aside off item h p = tt
   may (KeysAgain moment) s kept left aside off item h p = tt
   may (Holders moment) s kept left aside off item h p = tt
   may (Values moment) s kept left aside off item h p = settles_may moment (Values moment) s kept left aside off item h p
+  may (Regions sweep) s kept left aside off item h p = absurd p
   may ShortCleanups s kept left aside off item h p = tt
   may ShortTargets s kept left aside off item h p = tt
   may ShortWords s kept left aside off item h p = tt
@@ -118,15 +121,15 @@ module _ (E : Type 0) (word_of : ℕ → Option ℕ) (value : Map Object → ℕ
 
 module _ (E : Type 0) (word_of : ℕ → Option ℕ) (value : Map Object → ℕ → Option ℕ) (b : State) (before : Graph) (begin : HasBegun word_of b before) where
   -- in the round over short cleanups, too
-  may_in_rounds : (phase : Phase) (s : State) (kept left aside : List Item) (off : PutOff) (item : Item) (h : Graph) → rounds.IsIn E word_of value b before phase s kept (item ∷ left) aside off h → MayBeAsked (asks phase item) (subject phase item) h
+  may_in_rounds : (phase : Phase) (s : State) (kept left aside : List Item) (off : PutOff) (item : Item) (h : Graph) → rounds.IsIn E word_of value b before phase s kept (item ∷ left) aside off h → MayBeAsked (ask_of phase item) (subject phase item) h
   may_in_rounds phase s kept left aside off item h p =
-      ⊎_elim (λ (q : rounds.IsFirst E word_of value b before phase s (item ∷ left) h). subst (λ (o : Phase). MayBeAsked (asks o item) (subject o item) h) (sym q.0) tt)
+      ⊎_elim (λ (q : rounds.IsFirst E word_of value b before phase s (item ∷ left) h). subst (λ (o : Phase). MayBeAsked (ask_of o item) (subject o item) h) (sym q.0) tt)
       (λ (q : rounds.IsBehind E word_of value b before phase s kept (item ∷ left) aside off h).
       may E word_of value (after_due b q.0) before (rounds.begin_behind E word_of value b before begin q.0) phase s kept left aside off item h q.2) p
 
 module _ (E : Type 0) (word_of : ℕ → Option ℕ) (value : Map Object → ℕ → Option ℕ) (b : State) (before : Graph) (begin : HasBegun word_of b before) where
   -- and before it, while the marks become whole
-  may_ever : (phase : Phase) (s : State) (kept left aside : List Item) (off : PutOff) (item : Item) (h : Graph) → IsIn E word_of value b before phase s kept (item ∷ left) aside off h → MayBeAsked (asks phase item) (subject phase item) h
+  may_ever : (phase : Phase) (s : State) (kept left aside : List Item) (off : PutOff) (item : Item) (h : Graph) → IsIn E word_of value b before phase s kept (item ∷ left) aside off h → MayBeAsked (ask_of phase item) (subject phase item) h
   may_ever phase s kept left aside off item h p =
       ⊎_elim (λ (q : IsOpening E word_of value b before phase s kept (item ∷ left) off h). looks_may E word_of value before.objects b.ephemerons before.marked phase kept left off item h q.2)
       (λ (q : IsFollowing E word_of value b before phase s kept (item ∷ left) aside off h).
@@ -140,10 +143,15 @@ module _ (E : Type 0) (word_of : ℕ → Option ℕ) (value : Map Object → ℕ
         (keep E word_of value b before begin phase s kept left aside off item h between p answer honest),
   )
 
+  -- in a sweep there are no items
+  pub askable_on : (phase : Phase) (g : Going) (h : Graph) → IsOn E word_of value b before begin phase g h → AreAskable E word_of value phase g.left h
+  askable_on (Regions sweep) g h p = subst (λ (xs : List Item). AreAskable E word_of value (Regions sweep) xs h) (sym p.1) tt
+  askable_on phase g h p = askable phase g.finalizers g.kept g.left g.aside g.off h p.1
+
 pub asks_young_rightly : (E : Type 0) → AsksYoungRightly E
 asks_young_rightly E from word_of value old begun new past before after_it phase reached is may_begin seen runs at =
     let w = where_it_is E word_of value from old begun new past before after_it reached is may_begin seen runs in
-    askable E word_of value w.0 before w.1 phase (apart w.0.taken w.0.held new.finalizers.state) new.walk.kept new.walk.left new.walk.aside new.walk.off after_it (w.2 phase at)
+    askable_on E word_of value w.0 before w.1 phase (going_apart w.0.taken w.0.held (going_of new)) after_it (w.2 phase at)
 
 pub asks_rightly : (E : Type 0) → AsksRightly E
 asks_rightly E word_of value old begun new past before after_it phase reached is may_begin runs at =

@@ -25,15 +25,9 @@ use Rattle.fz_finalizers.specs.declared.cleanups.Attached.{Attached}
 use Rattle.fz_finalizers.specs.Promises.{AreSingle}
 use Rattle.fz_finalizers.specs.States.{State, AreFlags}
 use Rattle.fz_finalizers.proofs.Flags.{normal_of}
-use Rattle.fz_machine.specs.Graph.{Graph, MayBegin}
-use Rattle.fz_machine.specs.Phases.{Scope}
+use Rattle.fz_machine.specs.Graph.{AreOldMarked, Graph, MayBegin}
 use Rattle.fz_machine.proofs.Phased.{clear, cleared_links, Leading, Picked}
 use Rattle.fz_machine.proofs.Stated.{tabled}
-
--- all that a pass doesn't look at is marked
-pub record AreSeen (scope : Scope) (s : State) (g : Graph) : Type 0 where
-  pub registered : (object : ℕ) (r : Registration) → get s.registrations object ≡ Some r → r.number < scope.registrations → IsTrue (g.marked object)
-  pub attached : (number : ℕ) (c : Attached) → get s.cleanups number ≡ Some c → number < scope.cleanups → IsTrue (g.marked c.object)
 
 -- what is unmarked comes no earlier
 no_earlier : (number from : ℕ) (on : Bool) → (number < from → IsTrue on) → on ≡ false → from ≤ number
@@ -44,8 +38,8 @@ pub record HasBegun (word_of : ℕ → Option ℕ) (b : State) (before : Graph) 
   pub open may use *
   pub flags : AreFlags b.registrations b.late
   pub single : AreSingle b
-  pub scope : Scope
-  pub seen : AreSeen scope b before
+  pub from : ℕ
+  pub seen : AreOldMarked from b before
 
 module _ (E : Type 0) (word_of : ℕ → Option ℕ) (value : Map Object → ℕ → Option ℕ) (b : State) (before : Graph) (begin : HasBegun word_of b before) where
   abbrev begun : Map Object
@@ -55,11 +49,11 @@ module _ (E : Type 0) (word_of : ℕ → Option ℕ) (value : Map Object → ℕ
   keys = placed word_of b.ephemerons.short
 
   -- what is unmarked is looked at
-  pub young_registered : (object : ℕ) (r : Registration) → get b.registrations object ≡ Some r → before.marked object ≡ false → begin.scope.registrations ≤ r.number
-  young_registered object r here off = no_earlier r.number begin.scope.registrations (before.marked object) (begin.seen.registered object r here) off
+  pub young_registered : (object : ℕ) (r : Registration) → get b.registrations object ≡ Some r → before.marked object ≡ false → begin.from ≤ r.number
+  young_registered object r here off = no_earlier r.number begin.from (before.marked object) (begin.seen.registered object r here) off
 
-  pub young_attached : (marked : ℕ → Bool) → ((a : ℕ) → IsTrue (before.marked a) → IsTrue (marked a)) → (number : ℕ) (c : Attached) → get b.cleanups number ≡ Some c → marked c.object ≡ false → begin.scope.cleanups ≤ number
-  young_attached marked more number c here off = no_earlier number begin.scope.cleanups (marked c.object) (λ lt. more c.object (begin.seen.attached number c here lt)) off
+  pub young_attached : (marked : ℕ → Bool) → ((a : ℕ) → IsTrue (before.marked a) → IsTrue (marked a)) → (number : ℕ) (c : Attached) → get b.cleanups number ≡ Some c → marked c.object ≡ false → begin.from ≤ number
+  young_attached marked more number c here off = no_earlier number begin.from (marked c.object) (λ lt. more c.object (begin.seen.attached number c here lt)) off
 
   pub registered : AreRegistered (clear E word_of value b before) b.registrations
   registered = registered_still begun keys before.marked b.registrations (registered_still before.objects (placed word_of b.short) before.marked b.registrations begin.registered)

@@ -9,13 +9,11 @@ use Rattle.fz_finalizers.specs.Promises.{IsReached, Past, Then}
 use Rattle.fz_finalizers.specs.States.{State, View}
 use Rattle.fz_machine.specs.declared.item.Item.{Item}
 use Rattle.fz_machine.specs.declared.phase.Phase.{Phase}
-use Rattle.fz_machine.specs.declared.phase.Phase.TheVariants.{Keys, KeysAgain, Holders, Values, ShortCleanups, ShortTargets, ShortWords, ShortKeys, ShortKeyWords, Objects, Children, Again, Picks, LateAgain, LatePicks, LongTargets, LongWords, LongKeys, LongKeyWords, ShortHolders, LongHolders, ShortKeyHolders, LongKeyHolders, LongCleanups}
-use Rattle.fz_machine.specs.Going.{going}
-use Rattle.fz_machine.specs.Heard.{Abandons, Answered, IsCalled, Opens, PassesAreCalls, Tells}
-use Rattle.fz_machine.specs.Machines.{Machine}
+use Rattle.fz_machine.specs.declared.phase.Phase.TheVariants.{Keys, KeysAgain, Holders, Values, Regions, ShortCleanups, ShortTargets, ShortWords, ShortKeys, ShortKeyWords, Objects, Children, Again, Picks, LateAgain, LatePicks, LongTargets, LongWords, LongKeys, LongKeyWords, ShortHolders, LongHolders, ShortKeyHolders, LongKeyHolders, LongCleanups}
+use Rattle.fz_machine.specs.Heard.{Abandons, Hearing, IsCalled, Opens, PassesAreCalls, Tells}
+use Rattle.fz_machine.specs.Machines.{Machine, going_of, heard_by}
 use Rattle.fz_machine.specs.Phases.{after, without_key}
-use Rattle.fz_machine.specs.Steps.{steps}
-use Rattle.fz_machine.proofs.Throughout.{goes_keep, steps_keep}
+use Rattle.fz_machine.proofs.Throughout.{goes_keep, heard_keeps}
 
 -- ---- what answers do
 
@@ -41,6 +39,7 @@ module _ (past : Past) (s : State) (c : IsCalled past s) where
   called (KeysAgain moment) item answer = c
   called (Holders moment) item answer = c
   called (Values moment) item answer = c
+  called (Regions sweep) item answer = c
   called ShortCleanups item answer = cases answer s (queued_cleanup s item.word) c (cleaned item.word)
   called ShortTargets item answer = c
   called ShortWords item answer = unlinked Short item.word _ refl
@@ -64,11 +63,11 @@ module _ (past : Past) (s : State) (c : IsCalled past s) where
 
 pub passes_are_calls : PassesAreCalls
 passes_are_calls old new past reached (Opens from begun) = record { later = past; reached = Then Begin reached begun.finalizers; taken = refl; finished = refl }
-passes_are_calls old new past reached (Answered answers next goes) =
+passes_are_calls old new past reached (Hearing heard next goes) =
     let kept = λ (phase : Phase) (item : Item) (answer : Bool) (s : State) (c : IsCalled past s). called past s c phase item answer in
     let start : IsCalled past old.finalizers.state = record { later = past; reached = reached; taken = refl; finished = refl } in
-    goes_keep (IsCalled past) kept goes.phase (steps goes.phase answers (going old.finalizers old.walk)) new.phase (going new.finalizers new.walk) goes.goes
-    (steps_keep (IsCalled past) kept goes.phase answers (going old.finalizers old.walk) start)
+    goes_keep (IsCalled past) kept goes.phase (heard_by goes.phase old.regions heard (going_of old)) new.phase (going_of new) goes.goes
+    (heard_keeps (IsCalled past) kept goes.phase old.regions heard (going_of old) start)
 passes_are_calls old new past reached (Tells key tells) = record { later = past; reached = subst (λ (m : Machine). IsReached m.finalizers.state past) (sym tells.same) reached; taken = refl; finished = refl }
 passes_are_calls old new past reached (Abandons abandoned) =
     record { later = past; reached = subst (λ (v : View). IsReached v.state past) (sym abandoned.same) reached; taken = refl; finished = refl }

@@ -242,12 +242,12 @@ module _ (word_of : ℕ → Option ℕ) (objects : Map Object) (links : Map ℕ)
     pub only : (a : ℕ) → gone a ≡ true → lies a ≡ false
     pub rest : (a t : ℕ) → get links a ≡ Some t → lies a ≡ false → (gone a ≡ true) ⊎ OneOf (λ (i : Item). i.word ≡ a) left
 
-  pub holding_begins : (items : List Item) → ((object word : ℕ) → get links word ≡ Some object → OneOf (IsAt object word) items) → AreHeld items links
+  pub holding_begins : (items : List Item) → ((object word : ℕ) → get links word ≡ Some object → lies word ≡ false → OneOf (IsAt object word) items) → AreHeld items links
   holding_begins items all = record {
     gone = λ a. false;
     links_are = λ a. refl;
     only = λ a on. absurd (true≢false (sym on));
-    rest = λ a t here off. inr (one_as (IsAt t a) (λ i. i.word ≡ a) (λ i at. at.1) items (all t a here));
+    rest = λ a t here off. inr (one_as (IsAt t a) (λ i. i.word ≡ a) (λ i at. at.1) items (all t a here off));
   }
 
   module _ (left : List Item) (item : Item) (now_links : Map ℕ) (h : AreHeld (item ∷ left) now_links) where

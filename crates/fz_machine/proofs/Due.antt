@@ -1,5 +1,5 @@
 -- Cleanups in order: a map has no fewer, and what is due of them stays in order.
-use Rattle.std.proofs.Common.{◌≡◌, ◌≢◌, ◌≤◌, ◌<◌, ◌+◌, ◌++◌, ◌∷◌, ◌∙◌, [], ℕ, Bool, true, false, cond, List, length, length-append, refl, filter, get_or, Option, Some, None, All, AllPairs, not, ◌&&◌, is_some, sym, ap, subst, ⊎_elim, arith, zero, suc, IsTrue, append-nil}
+use Rattle.std.proofs.Common.{◌≡◌, ◌≢◌, ◌≤◌, ◌<◌, ◌+◌, ◌++◌, ◌∷◌, ◌∙◌, [], ℕ, Bool, true, false, cond, List, length, length-append, refl, filter, get_or, Option, Some, None, All, AllPairs, Contains, not, ◌&&◌, is_some, sym, ap, subst, ⊎_elim, arith, zero, suc, IsTrue, append-nil}
 use Rattle.std.proofs.lemmas.Bool.{and_parts, true≢false}
 use Rattle.std.proofs.lemmas.List.Elements.{All-filter, All-head, filter-append, filter_passes}
 use Rattle.std.proofs.lemmas.List.Kept.{AllPairs-filter}
@@ -145,19 +145,25 @@ due_more set cs e on is = filter-append (λ (x : ℕ × Attached). not (set x.1.
     by true = append-nil (due_in set cs)
     by false = refl
 
-module _ (when : LinkKind) (set : ℕ → Bool) (m : Map Attached) (cs : List (ℕ × Attached)) (are : AreDue (λ (c : Attached). is_when when c.cleanup.when) m cs) where
+module _ (when : LinkKind) (set : ℕ → Bool) (test : Attached → Bool) (m : Map Attached) (cs : List (ℕ × Attached)) where
   abbrev stays : ℕ × Attached → Bool
   stays e = not (set e.1.object)
 
-  pub are_due : AreDue (is_due when set) m (due_in set cs)
-  are_due = record {
+  -- those that are due, if all of them pass the test
+  pub record HasDue : Type 0 where
+    pub each : All (λ (x : ℕ × Attached). (get m x.0 ≡ Some x.1) × IsTrue (is_due when set x.1)) (due_in set cs)
+    pub whole : (number : ℕ) (c : Attached) → IsTrue (test c) → get m number ≡ Some c → IsTrue (is_due when set c) → Contains (due_in set cs) (number, c)
+    pub ordered : AllPairs ComesFirst (due_in set cs)
+
+  pub are_due : ((c : Attached) → IsTrue (test c) → IsTrue (is_when when c.cleanup.when)) → AreDue test m cs → HasDue
+  are_due of_moment are = record {
     each = λ k d within.
-        let of = All-filter stays (λ (x : ℕ × Attached). (get m x.0 ≡ Some x.1) × IsTrue (is_when when x.1.cleanup.when)) cs are.each k d within in
+        let of = All-filter stays (λ (x : ℕ × Attached). (get m x.0 ≡ Some x.1) × IsTrue (test x.1)) cs are.each k d within in
         let off = filter_passes stays cs k d within in
-        (of.0, both (is_when when (get_or (due_in set cs) k d).1.cleanup.when) (stays (get_or (due_in set cs) k d)) of.1 off);
-    whole = λ number c here on.
+        (of.0, both (is_when when (get_or (due_in set cs) k d).1.cleanup.when) (stays (get_or (due_in set cs) k d)) (of_moment (get_or (due_in set cs) k d).1 of.1) off);
+    whole = λ number c tested here on.
         let parts = and_parts (is_when when c.cleanup.when) (not (set c.object)) on in
-        let found = place_of cs (number, c) (are.whole number c here parts.0) in
+        let found = place_of cs (number, c) (are.whole number c here tested) in
         let left = kept_in stays cs found.0 (number, c) found.1 parts.1 in
         contains_at (due_in set cs) left.0 (number, c) left.1;
     ordered = AllPairs-filter ComesFirst stays cs are.ordered;

@@ -1,6 +1,6 @@
 -- Each answer that is heard leaves fewer to come.
-use Rattle.std.proofs.Common.{◌≡◌, ◌≤◌, ◌<◌, ◌+◌, ◌-◌, ◌*◌, ◌++◌, ◌∷◌, ◌∙◌, [], ℕ, zero, suc, Bool, true, false, cond, refl, slice_get, filter, get_or, nat_le, List, length, map, Option, Some, None, inl, inr, sym, ap, subst, is_some, length-append, add-mul, mul-add, mul-suc, arith}
-use Rattle.std.proofs.lemmas.Bool.{true≢false}
+use Rattle.std.proofs.Common.{◌≡◌, ◌≤◌, ◌<◌, ◌+◌, ◌-◌, ◌*◌, ◌&&◌, ◌++◌, ◌∷◌, ◌∙◌, [], ℕ, zero, suc, Bool, true, false, not, cond, refl, slice_get, filter, get_or, nat_le, List, length, map, Option, Some, None, inl, inr, sym, ap, subst, is_some, length-append, add-mul, mul-add, mul-suc, arith}
+use Rattle.std.proofs.lemmas.Bool.{and_parts, true≢false}
 use Rattle.std.proofs.lemmas.List.{length-map}
 use Rattle.std.proofs.lemmas.Option.{none-some}
 use Rattle.std.proofs.lemmas.List.Sorted.{length_permutation}
@@ -15,6 +15,7 @@ use Rattle.fz_model.specs.declared.kinds.LinkKind.{LinkKind}
 use Rattle.fz_model.specs.declared.kinds.LinkKind.TheVariants.{Short, Long}
 use Rattle.fz_pass.specs.Holds.{Ephemerons}
 use Rattle.fz_finalizers.specs.declared.cleanups.Attached.{Attached}
+use Rattle.fz_finalizers.specs.Cleanups.{is_when}
 use Rattle.fz_finalizers.specs.Follows.{Event, Follows}
 use Rattle.fz_finalizers.specs.States.{State}
 use Rattle.fz_machine.specs.declared.item.Item.{Item}
@@ -23,26 +24,26 @@ use Rattle.fz_machine.specs.declared.pass.Next.TheVariants as told
 use Rattle.fz_machine.specs.declared.phase.Phase.{Phase}
 use Rattle.fz_machine.specs.declared.phase.Moment.{Moment}
 use Rattle.fz_machine.specs.declared.phase.Moment.TheVariants.{First, Led, Picked, Last}
-use Rattle.fz_machine.specs.declared.phase.Phase.TheVariants.{Keys, KeysAgain, Holders, Values, ShortCleanups, ShortTargets, ShortWords, ShortKeys, ShortKeyWords, Objects, Children, Again, Picks, LateAgain, LatePicks, LongTargets, LongWords, LongKeys, LongKeyWords, ShortHolders, LongHolders, ShortKeyHolders, LongKeyHolders, LongCleanups}
-use Rattle.fz_machine.specs.Going.{going}
-use Rattle.fz_machine.specs.Heard.{Begun, Goes, Hears, Meanwhile, PassesEnd, Told, covered}
-use Rattle.fz_machine.specs.Items.{AreCleanups, AreEntriesOf, AreEphemerons, AreLinks, AreObjects, of_cleanup, of_link, of_stored}
+use Rattle.fz_machine.specs.declared.phase.Phase.TheVariants.{Keys, KeysAgain, Holders, Values, Regions, ShortCleanups, ShortTargets, ShortWords, ShortKeys, ShortKeyWords, Objects, Children, Again, Picks, LateAgain, LatePicks, LongTargets, LongWords, LongKeys, LongKeyWords, ShortHolders, LongHolders, ShortKeyHolders, LongKeyHolders, LongCleanups}
+use Rattle.fz_machine.specs.declared.phase.Sweep.{Sweep}
+use Rattle.fz_machine.specs.declared.phase.Sweep.TheVariants as sweeps
+use Rattle.fz_machine.specs.Heard.{Begun, Goes, Hears, Learns, Meanwhile, PassesEnd, Told}
+use Rattle.fz_machine.specs.Items.{AreCleanups, AreEntriesOf, AreEphemerons, AreLinks, AreObjects, of_cleanup, of_link, of_stored, target_of, word_of}
 use Rattle.fz_machine.specs.Machines as machines
-use Rattle.fz_machine.specs.Machines.{IsWork, Machine, Tells, TellsIn}
+use Rattle.fz_machine.specs.Machines.{Answers, IsWork, Machine, Tells, TellsIn, Words, going_of, heard_by}
 use Rattle.fz_machine.specs.Off.{PutOff, TellsOff, looked_at, looking, looks_again, none_off, put_off, stuck_with}
-use Rattle.fz_machine.specs.Phases.{Scope, Lists, after, aside_in, asks, behind, given, keeps, next_phase, off_in}
-use Rattle.fz_machine.specs.Regions.{items_in}
-use Rattle.fz_machine.specs.Steps.{Asks, Ends, Going, GoesOn, Turns, skip, skipped, steps}
+use Rattle.fz_machine.specs.Phases.{Lists, after, aside_in, asks, behind, given, keeps, next_phase, off_in, swept}
+use Rattle.fz_machine.specs.Regions.{is_marked, is_unmarked}
+use Rattle.fz_machine.specs.Steps.{Asks, Ends, Going, GoesOn, Sweeps, Turns, skip, skipped, steps}
 use Rattle.fz_machine.proofs.Phasing.{kept_on}
 use Rattle.fz_machine.proofs.Due.{HasOf, both_kinds, fewer_of}
-use Rattle.fz_machine.proofs.Remaining.{items_same}
-use Rattle.fz_machine.proofs.Stepping.{stops}
 use Rattle.fz_machine.proofs.Delayed.{all_off, all_with, tells_moves}
+use Rattle.fz_machine.proofs.Throughout.{heard_answers, heard_words}
 use Rattle.fz_machine.proofs.Within.{IsWithin, still}
 use Rattle.fz_machine.proofs.Working.{work_apart}
 
-abbrev at : State → List Item → List Item → List Item → PutOff → Going
-at s kept left aside off = record { finalizers = s; kept = kept; left = left; aside = aside; off = off }
+abbrev at : State → List Item → List Item → List Item → PutOff → List (ℕ × ℕ) → Going
+at s kept left aside off told = record { finalizers = s; kept = kept; left = left; aside = aside; off = off; told = told }
 
 -- ---- rounds over ephemerons
 
@@ -223,9 +224,15 @@ fewer_young p (x ∷ xs) = by (p x) (fewer_young p xs)
     by true le = omega (arith, le)
     by false le = omega (arith, le)
 
-some_left : (xs : List Item) (x : Item) → slice_get xs 0 ≡ Some x → 0 < length xs
-some_left [] x h = absurd (none-some x h)
-some_left (y ∷ ys) x h = omega arith
+some_left : (xs ys : List Item) (x : Item) → xs ≡ x ∷ ys → 0 < length xs
+some_left xs ys x is = let long = ap length is in omega (arith, long)
+
+-- where a pass stops while values are marked, one is left
+stops : {from : ℕ} (phase : Phase) (g : Going) (last : Option Phase) (k : Going) → GoesOn from phase g last k → (moment : Moment) → last ≡ Some (Values moment) → 0 < length k.left
+stops phase g last k (Asks item left some) moment is = some_left (skip phase g).left left item some
+stops phase g last k Sweeps moment is = absurd (true≢false (sym (ap is_values is)))
+stops phase g last k (Turns {next = next} {h = m} none turns begins rest) moment is = stops next m last k rest moment is
+stops phase g last k (Ends none turns) moment is = absurd (none-some (Values moment) is)
 
 module _ (r s g es el sc l : ℕ) where
   abbrev e : ℕ
@@ -241,6 +248,16 @@ module _ (r s g es el sc l : ℕ) where
   behind_them Picked aside = 2 * aside + (most e + later)
   behind_them Last aside = later
 
+  -- what comes in the phase behind a sweep and later
+  abbrev behind_sweep : Sweep → ℕ
+  behind_sweep sweeps.ShortCleanups = sc + (2 * s + 2 * es + 6 * r + 3 * most e + later)
+  behind_sweep sweeps.ShortTargets = 2 * s + 2 * es + 6 * r + 3 * most e + later
+  behind_sweep sweeps.Objects = 6 * r + 3 * most e + later
+  behind_sweep sweeps.LongTargets = later
+  behind_sweep sweeps.ShortHolders = g + s + el + es + l
+  behind_sweep sweeps.LongHolders = g + el + es + l
+  behind_sweep sweeps.LongCleanups = l
+
   -- how often a phase and those behind it may go over an item, by how many are kept, left, set aside, and put off
   abbrev to_come : Option Phase → ℕ → ℕ → ℕ → Size → ℕ
   to_come None kept left aside off = 0
@@ -248,6 +265,7 @@ module _ (r s g es el sc l : ℕ) where
   to_come (Some (KeysAgain moment)) kept left aside off = keys_to_come kept left off + behind_them moment aside
   to_come (Some (Holders moment)) kept left aside off = holders_to_come kept left off + behind_them moment aside
   to_come (Some (Values moment)) kept left aside off = values_of left off + behind_them moment aside
+  to_come (Some (Regions sweep)) kept left aside off = left + behind_sweep sweep
   to_come (Some ShortCleanups) kept left aside off = left + (2 * s + 2 * es + 6 * r + 3 * most e + later)
   to_come (Some ShortTargets) kept left aside off = 2 * left + kept + (2 * es + 6 * r + 3 * most e + later)
   to_come (Some ShortWords) kept left aside off = left + (2 * es + 6 * r + 3 * most e + later)
@@ -282,6 +300,7 @@ module _ (r s g es el sc l : ℕ) where
   fewer (KeysAgain moment) item answer kept left aside off = let few = keys_fewer kept left off item answer in omega (arith, few)
   fewer (Holders moment) item answer kept left aside off = let few = holders_fewer kept left off item answer in omega (arith, few)
   fewer (Values moment) item answer kept left aside off = let few = values_fewer answer left off in omega (arith, few)
+  fewer (Regions sweep) item answer kept left aside off = omega arith
   fewer ShortCleanups item answer kept left aside off = let le = one_more (keeps ShortCleanups item answer) kept in omega (arith, le)
   fewer ShortTargets item answer kept left aside off = let le = one_more (keeps ShortTargets item answer) kept in omega (arith, le)
   fewer ShortWords item answer kept left aside off = let le = one_more (keeps ShortWords item answer) kept in omega (arith, le)
@@ -318,82 +337,92 @@ module _ (r s g es el sc l : ℕ) where
   abbrev IsFit : State → Type 0
   IsFit = IsWithin r s g es el Cleanups
 
-  abbrev past_one : Phase → Item → Bool → State → List Item → List Item → List Item → PutOff → Going
-  past_one phase item answer t kept left aside off = at (after phase item answer t) (kept_on (keeps phase item answer) kept item) left aside (put_off phase item answer off)
+  abbrev past_one : Phase → Item → Bool → State → List Item → List Item → List Item → PutOff → List (ℕ × ℕ) → Going
+  past_one phase item answer t kept left aside off told = at (after phase item answer t) (kept_on (keeps phase item answer) kept item) left aside (put_off phase item answer off) told
 
   module _ (phase : Phase) where
-    past_fewer : (item : Item) (answer : Bool) (t : State) (kept left aside : List Item) (off : PutOff)
-        → to_come_in (Some phase) (past_one phase item answer t kept left aside off) + 1 ≤ to_come (Some phase) (length kept) (suc (length left)) (length aside) (size_of off)
-    past_fewer item answer t kept left aside off =
+    past_fewer : (item : Item) (answer : Bool) (t : State) (kept left aside : List Item) (off : PutOff) (told : List (ℕ × ℕ))
+        → to_come_in (Some phase) (past_one phase item answer t kept left aside off told) + 1 ≤ to_come (Some phase) (length kept) (suc (length left)) (length aside) (size_of off)
+    past_fewer item answer t kept left aside off told =
         subst (λ k. to_come (Some phase) k (length left) (length aside) (size_of (put_off phase item answer off)) + 1 ≤ to_come (Some phase) (length kept) (suc (length left)) (length aside) (size_of off)) (sym (long_on (keeps phase item answer) kept item))
         (fewer phase item answer (length kept) (length left) (length aside) off)
 
-    steps_fewer : (answers : List Bool) (t : State) (kept left aside : List Item) (off : PutOff) → IsFit t → length answers ≤ length left
-        → IsFit (steps phase answers (at t kept left aside off)).finalizers
-        × (length answers + to_come_in (Some phase) (steps phase answers (at t kept left aside off)) ≤ to_come (Some phase) (length kept) (length left) (length aside) (size_of off))
-    steps_fewer [] t kept left aside off h few = (h, omega arith)
-    steps_fewer (answer ∷ answers) t kept [] aside off h few = absurd (omega (arith, few))
-    steps_fewer (answer ∷ answers) t kept (item ∷ left) aside off h few =
-        let k = past_one phase item answer t kept left aside off in
-        let rest = steps_fewer answers k.finalizers k.kept left aside k.off (still r s g es el Cleanups fewer_cleanups t h phase item answer) (omega (arith, few)) in
-        let one = past_fewer item answer t kept left aside off in
+    steps_fewer : (answers : List Bool) (t : State) (kept left aside : List Item) (off : PutOff) (told : List (ℕ × ℕ)) → IsFit t → length answers ≤ length left
+        → IsFit (steps phase answers (at t kept left aside off told)).finalizers
+        × (length answers + to_come_in (Some phase) (steps phase answers (at t kept left aside off told)) ≤ to_come (Some phase) (length kept) (length left) (length aside) (size_of off))
+    steps_fewer [] t kept left aside off told h few = (h, omega arith)
+    steps_fewer (answer ∷ answers) t kept [] aside off told h few = absurd (omega (arith, few))
+    steps_fewer (answer ∷ answers) t kept (item ∷ left) aside off told h few =
+        let k = past_one phase item answer t kept left aside off told in
+        let rest = steps_fewer answers k.finalizers k.kept left aside k.off told (still r s g es el Cleanups fewer_cleanups t h phase item answer) (omega (arith, few)) in
+        let one = past_fewer item answer t kept left aside off told in
         let all = rest.1 in
         (rest.0, omega (arith, all, one))
 
     abbrev IsPast : Going → ℕ → Type 0
     IsPast k n = IsFit k.finalizers × (to_come_in (Some phase) k ≤ n)
 
-    skips_fewer : (left : List Item) (t : State) (kept aside : List Item) (off : PutOff) → IsFit t
-        → IsPast (skipped phase left (at t kept left aside off)) (to_come (Some phase) (length kept) (length left) (length aside) (size_of off))
-    skips_fewer [] t kept aside off h = (h, omega arith)
-    skips_fewer (item ∷ left) t kept aside off h =
-        by (is_some (asks phase item)) (skips_fewer left k.finalizers k.kept aside k.off (still r s g es el Cleanups fewer_cleanups t h phase item false))
+    skips_fewer : (left : List Item) (t : State) (kept aside : List Item) (off : PutOff) (told : List (ℕ × ℕ)) → IsFit t
+        → IsPast (skipped phase left (at t kept left aside off told)) (to_come (Some phase) (length kept) (length left) (length aside) (size_of off))
+    skips_fewer [] t kept aside off told h = (h, omega arith)
+    skips_fewer (item ∷ left) t kept aside off told h =
+        by (is_some (asks phase item)) (skips_fewer left k.finalizers k.kept aside k.off told (still r s g es el Cleanups fewer_cleanups t h phase item false))
       where
         k : Going
-        k = past_one phase item false t kept left aside off
+        k = past_one phase item false t kept left aside off told
 
-        by : (b : Bool) → IsPast (skipped phase left (past_one phase item false t kept left aside off)) (to_come_in (Some phase) (past_one phase item false t kept left aside off))
-            → IsPast (cond b (at t kept (item ∷ left) aside off) (skipped phase left (past_one phase item false t kept left aside off))) (to_come (Some phase) (length kept) (suc (length left)) (length aside) (size_of off))
+        by : (b : Bool) → IsPast (skipped phase left (past_one phase item false t kept left aside off told)) (to_come_in (Some phase) (past_one phase item false t kept left aside off told))
+            → IsPast (cond b (at t kept (item ∷ left) aside off told) (skipped phase left (past_one phase item false t kept left aside off told))) (to_come (Some phase) (length kept) (suc (length left)) (length aside) (size_of off))
         by true rest = (h, omega arith)
-        by false rest = let one = past_fewer item false t kept left aside off in let all = rest.1 in (rest.0, omega (arith, all, one))
+        by false rest = let one = past_fewer item false t kept left aside off told in let all = rest.1 in (rest.0, omega (arith, all, one))
 
     skip_fewer : (k : Going) → IsFit k.finalizers → IsPast (skip phase k) (to_come_in (Some phase) k)
-    skip_fewer k h = skips_fewer k.left k.finalizers k.kept k.aside k.off h
+    skip_fewer k h = skips_fewer k.left k.finalizers k.kept k.aside k.off k.told h
 
   -- ---- the next phase
 
   entries : {X : Type 0} (m : Map X) (es : List (ℕ × X)) → AreEntriesOf m es → length es ≡ len m
   entries m es are = sym (len_made es are.1) ∙ ap len are.0
 
-  links_few : (links : Map ℕ) (items : List Item) → AreLinks links items → length items ≡ len links
-  links_few links items are = ap length are.2 ∙ length-map are.0 of_link ∙ entries links are.0 are.1
+  links_few : (number : ℕ × ℕ → ℕ) (told : List (ℕ × ℕ)) (links : Map ℕ) (items : List Item) → AreLinks number told links items → length items ≤ len links
+  links_few number told links items are =
+      let some = filter (λ (e : ℕ × ℕ). not (is_marked told (number e))) are.0 in
+      let few = fewer_young (λ (e : ℕ × ℕ). not (is_marked told (number e))) are.0 in
+      let long = ap length are.2 ∙ length-map some (λ (e : ℕ × ℕ). of_link (is_unmarked told (number e)) e) in
+      let all = entries links are.0 are.1 in
+      omega (arith, few, long, all)
 
-  rows_few : (k : Ephemerons) (items : List Item) → AreEphemerons k items → length items ≡ len k.short + len k.long
+  rows_few : (k : Ephemerons) (items : List Item) → AreEphemerons k items → length items ≤ len k.short + len k.long
   rows_few k items (shorts, longs, short, long, is) =
       let all = ap length is ∙ length-append shorts longs in
-      let few_short = links_few k.short shorts short in
-      let few_long = links_few k.long longs long in
+      let few_short = links_few target_of [] k.short shorts short in
+      let few_long = links_few target_of [] k.long longs long in
       omega (arith, all, few_short, few_long)
 
-  objects_few : (from : ℕ) (registrations : Map Registration) (late : Set) (items : List Item) → AreObjects from registrations late items → length items ≤ len registrations
-  objects_few from registrations late items are =
-      let few = fewer_young (λ (e : ℕ × Stored). nat_le from e.1.number) are.0 in
-      let long = ap length are.3 ∙ length-map (filter (λ (e : ℕ × Stored). nat_le from e.1.number) are.0) of_stored in
+  objects_few : (from : ℕ) (told : List (ℕ × ℕ)) (registrations : Map Registration) (late : Set) (items : List Item) → AreObjects from told registrations late items → length items ≤ len registrations
+  objects_few from told registrations late items are =
+      let few = fewer_young (λ (e : ℕ × Stored). nat_le from e.1.number && not (is_marked told e.0)) are.0 in
+      let long = ap length are.3 ∙ length-map (filter (λ (e : ℕ × Stored). nat_le from e.1.number && not (is_marked told e.0)) are.0) (λ (e : ℕ × Stored). of_stored (is_unmarked told e.0) e) in
       let all = sym (length-map are.0 plain) ∙ entries registrations (map plain are.0) are.1 in
       omega (arith, few, long, all)
 
-  cleanups_few : (from : ℕ) (when : LinkKind) (n : ℕ) (cleanups : Map Attached) (items : List Item) → HasOf when n cleanups → AreCleanups from when cleanups items → length items ≤ n
-  cleanups_few from when n cleanups items has are =
-      let same = ap length are.2 ∙ length-map are.0 of_cleanup in
-      let few = has are.0 (record { each = λ k d within. let one = are.1.each k d within in ((retained_back cleanups (nat_le from) (get_or are.0 k d).0 (get_or are.0 k d).1 one.0).1, one.1); ordered = are.1.ordered }) in
+  cleanups_few : (from : ℕ) (told : List (ℕ × ℕ)) (when : LinkKind) (n : ℕ) (cleanups : Map Attached) (items : List Item) → HasOf when n cleanups → AreCleanups from told when cleanups items → length items ≤ n
+  cleanups_few from told when n cleanups items has are =
+      let same = ap length are.2 ∙ length-map are.0 (λ (e : ℕ × Attached). of_cleanup (is_unmarked told e.1.object) e) in
+      let few = has are.0 (record {
+        each = λ k d within.
+            let one = are.1.each k d within in
+            ((retained_back cleanups (nat_le from) (get_or are.0 k d).0 (get_or are.0 k d).1 one.0).1, (and_parts (is_when when (get_or are.0 k d).1.cleanup.when) (not (is_marked told (get_or are.0 k d).1.object)) one.1).0);
+        ordered = are.1.ordered;
+      }) in
       omega (arith, same, few)
 
-  module _ (scope : Scope) (t : State) (h : IsFit t) where
+  module _ (from : ℕ) (told : List (ℕ × ℕ)) (t : State) (h : IsFit t) where
     -- the next phase begins with no more to come
     abbrev IsFewer : Phase → List Item → List Item → PutOff → Option Phase → Type 0
     IsFewer phase kept aside off None = Unit {0}
     IsFewer phase kept aside off (Some next) =
-        (items : List Item) → Lists next scope t (given next kept aside off) items
+        (items : List Item) → Lists next from told t (given next kept aside off) items
         → to_come (Some next) 0 (length items) (length (aside_in next kept aside)) (size_of (off_in next off)) ≤ to_come (Some phase) (length kept) 0 (length aside) (size_of off)
 
     rows_begin : (items : List Item) → AreEphemerons t.ephemerons items → keys_to_come 0 (length items) (size_of none_off) ≤ most e
@@ -421,11 +450,24 @@ module _ (r s g es el sc l : ℕ) where
         subst (λ (xs : List Item). values_of (length xs) (size_of off) + behind_them moment (length aside) ≤ holders_to_come (length kept) 0 (size_of off) + behind_them moment (length aside)) (sym is)
         (let few = values_begin (length kept) (length (all_off off)) (length off.told) off.again (length kept + 0 + length (all_off off)) (omega arith) in omega (arith, few))
 
+    -- a sweep lists nothing
+    sweep_turn : (sweep : Sweep) (items : List Item) → items ≡ [] → length items + behind_sweep sweep ≤ behind_sweep sweep
+    sweep_turn sweep items none = let long = ap length none in omega (arith, long)
+
     behind_turn : (moment : Moment) (kept aside : List Item) (off : PutOff) → IsFewer (Values moment) kept aside off (Some (behind moment))
-    behind_turn First kept aside off = λ items are. let few = cleanups_few scope.cleanups Short sc t.cleanups items h.attached.0 are in omega (arith, few)
+    behind_turn First kept aside off = λ items is. let none = sweep_turn sweeps.ShortCleanups items is in omega (arith, none)
     behind_turn Led kept aside off = λ items is. let same = ap length is in omega (arith, same)
     behind_turn Picked kept aside off = λ items is. let same = ap length is in omega (arith, same)
-    behind_turn Last kept aside off = λ items are. let many = links_few t.long items are in let few = h.long in omega (arith, many, few)
+    behind_turn Last kept aside off = λ items is. let none = sweep_turn sweeps.LongTargets items is in omega (arith, none)
+
+    swept_turn : (sweep : Sweep) (kept aside : List Item) (off : PutOff) → IsFewer (Regions sweep) kept aside off (Some (swept sweep))
+    swept_turn sweeps.ShortCleanups kept aside off = λ items are. let few = cleanups_few from told Short sc t.cleanups items h.attached.0 are in omega (arith, few)
+    swept_turn sweeps.ShortTargets kept aside off = λ items are. let many = links_few target_of told t.short items are in let few = h.short in omega (arith, many, few)
+    swept_turn sweeps.Objects kept aside off = λ items are. let many = objects_few from told t.registrations t.late items are in let few = h.registered in omega (arith, many, few)
+    swept_turn sweeps.LongTargets kept aside off = λ items are. let many = links_few target_of told t.long items are in let few = h.long in omega (arith, many, few)
+    swept_turn sweeps.ShortHolders kept aside off = λ items are. let many = links_few word_of told t.short items are in let few = h.short in omega (arith, many, few)
+    swept_turn sweeps.LongHolders kept aside off = λ items are. let many = links_few word_of told t.long items are in let few = h.long in omega (arith, many, few)
+    swept_turn sweeps.LongCleanups kept aside off = λ items are. let few = cleanups_few from told Long l t.cleanups items h.attached.1 are in omega (arith, few)
 
     turns_fewer : (phase : Phase) (kept aside : List Item) (off : PutOff) → IsFewer phase kept aside off (next_phase phase (looks_again off))
     turns_fewer (Keys moment) kept aside off = λ items is. keys_turn moment kept aside items off is
@@ -436,11 +478,12 @@ module _ (r s g es el sc l : ℕ) where
         by : (more : Bool) → looks_again off ≡ more → IsFewer (Values moment) kept aside off (next_phase (Values moment) more)
         by false over = behind_turn moment kept aside off
         by true again = λ items is. let few = again_fewer items off again is in omega (arith, few)
-    turns_fewer ShortCleanups kept aside off = λ items are. let many = links_few t.short items are in let few = h.short in omega (arith, many, few)
+    turns_fewer (Regions sweep) kept aside off = swept_turn sweep kept aside off
+    turns_fewer ShortCleanups kept aside off = λ items is. let none = sweep_turn sweeps.ShortTargets items is in omega (arith, none)
     turns_fewer ShortTargets kept aside off = λ items is. let same = ap length is in omega (arith, same)
-    turns_fewer ShortWords kept aside off = λ items are. let many = links_few t.ephemerons.short items are in let few = h.short_keys in omega (arith, many, few)
+    turns_fewer ShortWords kept aside off = λ items are. let many = links_few target_of [] t.ephemerons.short items are in let few = h.short_keys in omega (arith, many, few)
     turns_fewer ShortKeys kept aside off = λ items is. let same = ap length is in omega (arith, same)
-    turns_fewer ShortKeyWords kept aside off = λ items are. let many = objects_few scope.registrations t.registrations t.late items are in let few = h.registered in omega (arith, many, few)
+    turns_fewer ShortKeyWords kept aside off = λ items is. let none = sweep_turn sweeps.Objects items is in omega (arith, none)
     turns_fewer Objects kept aside off = λ items is. let same = ap length is in omega (arith, same)
     turns_fewer Children kept aside off = λ items are. let few = rows_begin items are in omega (arith, few)
     turns_fewer Again kept aside off = λ items turned. let same = length_permutation kept items turned.0 in omega (arith, same)
@@ -448,26 +491,27 @@ module _ (r s g es el sc l : ℕ) where
     turns_fewer LateAgain kept aside off = λ items is. let same = ap length is in omega (arith, same)
     turns_fewer LatePicks kept aside off = λ items are. let few = rows_begin items are in omega (arith, few)
     turns_fewer LongTargets kept aside off = λ items is. let same = ap length is in omega (arith, same)
-    turns_fewer LongWords kept aside off = λ items are. let many = links_few t.ephemerons.long items are in let few = h.long_keys in omega (arith, many, few)
+    turns_fewer LongWords kept aside off = λ items are. let many = links_few target_of [] t.ephemerons.long items are in let few = h.long_keys in omega (arith, many, few)
     turns_fewer LongKeys kept aside off = λ items is. let same = ap length is in omega (arith, same)
-    turns_fewer LongKeyWords kept aside off = λ items are. let many = links_few t.short items are in let few = h.short in omega (arith, many, few)
-    turns_fewer ShortHolders kept aside off = λ items are. let many = links_few t.long items are in let few = h.long in omega (arith, many, few)
-    turns_fewer LongHolders kept aside off = λ items are. let many = links_few t.ephemerons.short items are in let few = h.short_keys in omega (arith, many, few)
-    turns_fewer ShortKeyHolders kept aside off = λ items are. let many = links_few t.ephemerons.long items are in let few = h.long_keys in omega (arith, many, few)
-    turns_fewer LongKeyHolders kept aside off = λ items are. let few = cleanups_few scope.cleanups Long l t.cleanups items h.attached.1 are in omega (arith, few)
+    turns_fewer LongKeyWords kept aside off = λ items is. let none = sweep_turn sweeps.ShortHolders items is in omega (arith, none)
+    turns_fewer ShortHolders kept aside off = λ items is. let none = sweep_turn sweeps.LongHolders items is in omega (arith, none)
+    turns_fewer LongHolders kept aside off = λ items are. let many = links_few target_of [] t.ephemerons.short items are in let few = h.short_keys in omega (arith, many, few)
+    turns_fewer ShortKeyHolders kept aside off = λ items are. let many = links_few target_of [] t.ephemerons.long items are in let few = h.long_keys in omega (arith, many, few)
+    turns_fewer LongKeyHolders kept aside off = λ items is. let none = sweep_turn sweeps.LongCleanups items is in omega (arith, none)
     turns_fewer LongCleanups kept aside off = tt
 
-  goes_fewer : {scope : Scope} (phase : Phase) (k : Going) (last : Option Phase) (m : Going) → GoesOn scope phase k last m → IsFit k.finalizers → IsFit m.finalizers × (to_come_in last m ≤ to_come_in (Some phase) k)
+  goes_fewer : {from : ℕ} (phase : Phase) (k : Going) (last : Option Phase) (m : Going) → GoesOn from phase k last m → IsFit k.finalizers → IsFit m.finalizers × (to_come_in last m ≤ to_come_in (Some phase) k)
   goes_fewer phase k last m (Asks item left some) h = skip_fewer phase k h
-  goes_fewer {scope = scope} phase k last m (Turns {next = next} {h = n} none turns begins rest) h =
+  goes_fewer phase k last m Sweeps h = (h, omega arith)
+  goes_fewer {from = from} phase k last m (Turns {next = next} {h = n} none turns begins rest) h =
       let past = skip_fewer phase k h in
       let p = skip phase k in
       let on = goes_fewer next n last m rest (subst IsFit (sym begins.same) past.0) in
       let turn : to_come (Some next) 0 (length n.left) (length (aside_in next p.kept p.aside)) (size_of (off_in next p.off)) ≤ to_come (Some phase) (length p.kept) 0 (length p.aside) (size_of p.off) =
-      subst (IsFewer scope p.finalizers past.0 phase p.kept p.aside p.off) turns (turns_fewer scope p.finalizers past.0 phase p.kept p.aside p.off) n.left begins.lists in
+      subst (IsFewer from p.told p.finalizers past.0 phase p.kept p.aside p.off) turns (turns_fewer from p.told p.finalizers past.0 phase p.kept p.aside p.off) n.left begins.lists in
       let here : to_come_in (Some next) n ≤ to_come (Some phase) (length p.kept) 0 (length p.aside) (size_of p.off) =
       subst (λ (x : Going). to_come_in (Some next) x ≤ to_come (Some phase) (length p.kept) 0 (length p.aside) (size_of p.off))
-      (λ i. record { finalizers = n.finalizers; kept = sym begins.none i; left = n.left; aside = sym begins.aside i; off = sym begins.off i }) turn in
+      (λ i. record { finalizers = n.finalizers; kept = sym begins.none i; left = n.left; aside = sym begins.aside i; off = sym begins.off i; told = n.told }) turn in
       let there : to_come (Some phase) (length p.kept) 0 (length p.aside) (size_of p.off) ≤ to_come_in (Some phase) k =
       subst (λ (xs : List Item). to_come (Some phase) (length p.kept) (length xs) (length p.aside) (size_of p.off) ≤ to_come_in (Some phase) k) none past.1 in
       let all = on.1 in
@@ -485,26 +529,16 @@ module _ (r s g es el sc l : ℕ) where
   record IsHearing (n : ℕ) (m : Machine) : Type 0 where
     within : IsFit m.finalizers.state
     few : n + to_come_at m ≤ all_to_come
-    asked : (p : Phase) → m.phase ≡ Some p → covered m ≤ length m.walk.left
+    asked : (p : Phase) → m.phase ≡ Some p → m.asked ≤ length m.walk.left
     some : (moment : Moment) → m.phase ≡ Some (Values moment) → 0 < length m.walk.left
 
-  asked_for : (m : Machine) (next : Next) → Tells m next → (p : Phase) → m.phase ≡ Some p → covered m ≤ length m.walk.left
+  asked_for : (m : Machine) (next : Next) → Tells m next → (p : Phase) → m.phase ≡ Some p → m.asked ≤ length m.walk.left
   asked_for m (told.Asks question) (phase, was, inl items) p at =
       let within = items.question.within in
       let count = items.asked in
-      let none = ap (λ rs. length (items_in m.finalizers.state rs)) items.regions in
-      omega (arith, within, count, none)
-  asked_for m (told.Asks question) (phase, was, inr regions) p at =
-      let none = regions.asked in
-      let long = ap length regions.first.1 ∙ length-append (items_in m.finalizers.state m.regions) regions.first.0 in
-      omega (arith, none, long)
+      omega (arith, within, count)
+  asked_for m (told.Asks question) (phase, was, inr regions) p at = let none = regions.asked in omega (arith, none)
   asked_for m (told.Ended passed) (none, same, picked) p at = absurd (none-some p (sym none ∙ at))
-
-  -- a worker leaves what is covered
-  still_covered : (m n : Machine) (event : Event) → IsWork event → Follows m.finalizers.state event n.finalizers.state → n ≡ record m { finalizers = n.finalizers } → covered n ≡ covered m
-  still_covered m n event work follows keeps =
-      let apart = work_apart 0 [] m.finalizers.state n.finalizers.state event work follows in
-      ap covered keeps ∙ ap (λ xs. m.asked + length xs) (items_same m.finalizers.state n.finalizers.state (ap (λ (t : State). t.registrations) apart) (ap (λ (t : State). t.late) apart) m.regions)
 
   worked_within : (t u : State) (event : Event) → IsWork event → Follows t event u → IsFit t → IsFit u
   worked_within t u event work follows h =
@@ -524,30 +558,41 @@ module _ (r s g es el sc l : ℕ) where
   told_fewer key (Some (Values moment)) kept left aside was now tells some = values_told key moment kept left aside was now tells (some moment refl)
   told_fewer key phase kept left aside was now tells some = let same = ap (λ (off : PutOff). to_come phase kept left aside (size_of off)) tells in omega (arith, same)
 
+  -- an answer is about one item more, and words are about none
+  goes_few : {from : ℕ} (phase : Phase) (before : ℕ) (old m : Machine) (n : ℕ) (k : Going) (next : Next) → old.phase ≡ Some phase → IsFit k.finalizers → n + to_come_in (Some phase) k ≤ to_come_in (Some phase) (going_of old) → GoesOn from phase k m.phase (going_of m)
+      → Tells m next → before + to_come_at old ≤ all_to_come → IsHearing (before + n) m
+  goes_few phase before old m n k next at fit few goes tells all =
+      let on = goes_fewer phase k m.phase (going_of m) goes fit in
+      let there = on.1 in
+      let so_far = subst (λ o. before + to_come o (length old.walk.kept) (length old.walk.left) (length old.walk.aside) (size_of old.walk.off) ≤ all_to_come) at all in
+      record {
+        within = on.0;
+        few = omega (arith, so_far, few, there);
+        asked = asked_for m next tells;
+        some = λ moment here. stops phase k m.phase (going_of m) goes moment here;
+      }
+
   heard : (begun m : Machine) (n : ℕ) → IsHearing 0 begun → Hears begun m n → IsHearing n m
   heard begun m n h Begun = h
   heard begun m n h (Goes {m = old} {next = next} {n = before} answers few goes hears) =
       let was = heard begun old before h hears in
       let asked = was.asked goes.phase goes.was in
-      let stepped = steps_fewer goes.phase answers old.finalizers.state old.walk.kept old.walk.left old.walk.aside old.walk.off was.within (omega (arith, few, asked)) in
-      let on = goes_fewer goes.phase (steps goes.phase answers (going old.finalizers old.walk)) m.phase (going m.finalizers m.walk) goes.goes stepped.0 in
-      let so_far = subst (λ o. before + to_come o (length old.walk.kept) (length old.walk.left) (length old.walk.aside) (size_of old.walk.off) ≤ all_to_come) goes.was was.few in
-      let here = stepped.1 in
-      let there = on.1 in
-      record {
-        within = on.0;
-        few = omega (arith, so_far, here, there);
-        asked = asked_for m next goes.tells;
-        some = λ moment at. let first = stops goes.phase (steps goes.phase answers (going old.finalizers old.walk)) m.phase (going m.finalizers m.walk) goes.goes (Values moment) at in some_left m.walk.left first.0 first.1;
-      }
+      let stepped = steps_fewer goes.phase answers old.finalizers.state old.walk.kept old.walk.left old.walk.aside old.walk.off old.told was.within (omega (arith, few, asked)) in
+      goes_few goes.phase before old m (length answers) (steps goes.phase answers (going_of old)) next goes.was stepped.0 stepped.1
+      (subst (λ (k : Going). GoesOn old.from goes.phase k m.phase (going_of m)) (heard_answers goes.phase old.regions answers (going_of old)) goes.goes) goes.tells was.few
+  heard begun m n h (Learns {m = old} {next = next} {n = before} words goes hears) =
+      let was = heard begun old before h hears in
+      let k : Going = record (going_of old) { told = (heard_by goes.phase old.regions (Words words) (going_of old)).told } in
+      let all : before + 0 ≡ before = omega arith in
+      subst (λ x. IsHearing x m) all
+      (goes_few goes.phase before old m 0 k next goes.was was.within (omega arith) (subst (λ (x : Going). GoesOn old.from goes.phase x m.phase (going_of m)) (heard_words goes.phase old.regions words (going_of old)) goes.goes) goes.tells was.few)
   heard begun m n h (Meanwhile {m = old} worked hears) =
       let was = heard begun old n h hears in
       let now = worked_within old.finalizers.state m.finalizers.state worked.event worked.work worked.follows was.within in
       record {
         within = now;
         few = subst (λ (k : Machine). n + to_come_at k ≤ all_to_come) (sym worked.keeps) was.few;
-        asked = λ p at. subst (λ k. k ≤ length m.walk.left) (sym (still_covered old m worked.event worked.work worked.follows worked.keeps))
-            (subst (λ xs. covered old ≤ length xs) (sym (ap (λ (k : Machine). k.walk.left) worked.keeps)) (was.asked p (sym (ap (λ (k : Machine). k.phase) worked.keeps) ∙ at)));
+        asked = λ p at. subst (λ (k : Machine). k.asked ≤ length k.walk.left) (sym worked.keeps) (was.asked p (sym (ap (λ (k : Machine). k.phase) worked.keeps) ∙ at));
         some = λ moment at. subst (λ xs. 0 < length xs) (sym (ap (λ (k : Machine). k.walk.left) worked.keeps)) (was.some moment (sym (ap (λ (k : Machine). k.phase) worked.keeps) ∙ at));
       }
   heard begun m n h (Told {m = old} key tells hears) =
@@ -557,7 +602,7 @@ module _ (r s g es el sc l : ℕ) where
       record {
         within = subst (λ (k : Machine). IsFit k.finalizers.state) (sym tells.same) was.within;
         few = subst (λ (k : Machine). n + to_come_at k ≤ all_to_come) (sym tells.same) (omega (arith, so_far, less));
-        asked = λ p at. subst (λ (k : Machine). covered k ≤ length k.walk.left) (sym tells.same) (was.asked p (sym (ap (λ (k : Machine). k.phase) tells.same) ∙ at));
+        asked = λ p at. subst (λ (k : Machine). k.asked ≤ length k.walk.left) (sym tells.same) (was.asked p (sym (ap (λ (k : Machine). k.phase) tells.same) ∙ at));
         some = λ moment at. subst (λ (k : Machine). 0 < length k.walk.left) (sym tells.same) (was.some moment (sym (ap (λ (k : Machine). k.phase) tells.same) ∙ at));
       }
 
@@ -577,15 +622,15 @@ passes_end from old begun m n is hears =
     let l = kinds.1 in
     let fit : IsFit r s g es el sc l t = record { registered = omega arith; short = omega arith; long = omega arith; short_keys = omega arith; long_keys = omega arith; attached = (kinds.2, kinds.3) } in
     let listed : AreEphemerons t.ephemerons begun.walk.left = subst (λ (u : State). AreEphemerons u.ephemerons begun.walk.left) is.finalizers is.begins.lists in
-    let few = rows_begin r s g es el sc l (machines.scope begun) t fit begun.walk.left listed in
+    let few = rows_begin r s g es el sc l from [] t fit begun.walk.left listed in
     let first : to_come r s g es el sc l (Some (Keys First)) 0 (length begun.walk.left) 0 (size_of none_off) ≤ all_to_come r s g es el sc l = omega (arith, few) in
     let start : IsHearing r s g es el sc l 0 begun = record {
       within = subst (IsFit r s g es el sc l) (sym is.finalizers) (record { registered = omega arith; short = omega arith; long = omega arith; short_keys = omega arith; long_keys = omega arith; attached = (kinds.2, kinds.3) });
       few = subst (λ o. 0 + to_come r s g es el sc l o (length begun.walk.kept) (length begun.walk.left) (length begun.walk.aside) (size_of begun.walk.off) ≤ all_to_come r s g es el sc l) (sym is.phase)
           (none_before (to_come r s g es el sc l (Some (Keys First)) (length begun.walk.kept) (length begun.walk.left) (length begun.walk.aside) (size_of begun.walk.off)) (all_to_come r s g es el sc l)
           (subst (λ (k : Going). to_come_in r s g es el sc l (Some (Keys First)) k ≤ all_to_come r s g es el sc l)
-          (λ i. record { finalizers = t; kept = sym is.begins.none i; left = begun.walk.left; aside = sym is.begins.aside i; off = sym is.begins.off i }) first));
-      asked = λ p at. let none = is.asked in let no_items = ap (λ rs. length (items_in begun.finalizers.state rs)) is.regions in omega (arith, none, no_items);
+          (λ i. record { finalizers = t; kept = sym is.begins.none i; left = begun.walk.left; aside = sym is.begins.aside i; off = sym is.begins.off i; told = begun.told }) first));
+      asked = λ p at. let none = is.asked in omega (arith, none);
       some = λ moment at. absurd (not_values moment (sym is.phase ∙ at));
     } in
     let end = (heard r s g es el sc l begun m n start hears).few in

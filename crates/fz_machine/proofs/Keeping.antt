@@ -1,8 +1,8 @@
 -- Each answer keeps what holds in its phase.
-use Rattle.std.proofs.Common.{◌≡◌, ◌+◌, ◌*◌, ◌^◌, ◌⊎◌, ◌++◌, ◌∷◌, ◌∙◌, [], ℕ, Bool, true, false, not, cond, List, Some, None, refl, sym, ap, subst, inl, inr, ⊎_elim, append_assoc, arith, Option}
+use Rattle.std.proofs.Common.{◌≡◌, ◌+◌, ◌*◌, ◌^◌, ◌⊎◌, ◌++◌, ◌∷◌, ◌∙◌, [], ℕ, Bool, true, false, not, cond, List, Some, None, refl, sym, ap, subst, inl, inr, ⊎_elim, append_assoc, arith, Option, IsTrue}
 use Rattle.std.specs.FinMap.{get, remove}
 use Rattle.std.specs.FinSet.{contains}
-use Rattle.std.proofs.lemmas.Bool.{both_ways}
+use Rattle.std.proofs.lemmas.Bool.{both_ways, true≢false}
 use Rattle.fz_model.specs.declared.answers.Registration.{Registration}
 use Rattle.fz_model.specs.declared.kinds.RegKind.{RegKind}
 use Rattle.fz_model.specs.declared.kinds.RegKind.TheVariants as table
@@ -12,6 +12,7 @@ use Rattle.fz_model.specs.Reachability.{Leads}
 use Rattle.fz_pass.specs.All.{unknown}
 use Rattle.fz_pass.specs.Marks.{Marks}
 use Rattle.fz_pass.specs.Picking.{left_by, pick_of}
+use Rattle.fz_pass.specs.Places.{is_held}
 use Rattle.fz_pass.specs.Tiers.{skips}
 use Rattle.fz_pass.proofs.Tiers.{skips_flagged, unskips}
 use Rattle.fz_finalizers.specs.declared.kinds.Kind.{Kind}
@@ -22,13 +23,13 @@ use Rattle.fz_machine.specs.declared.item.Item.{Item}
 use Rattle.fz_machine.specs.declared.phase.Moment.{Moment}
 use Rattle.fz_machine.specs.declared.phase.Moment.TheVariants as moments
 use Rattle.fz_machine.specs.declared.phase.Phase.{Phase}
-use Rattle.fz_machine.specs.declared.phase.Phase.TheVariants.{Keys, KeysAgain, Holders, Values, ShortCleanups, ShortTargets, ShortWords, ShortKeys, ShortKeyWords, Objects, Children, Again, Picks, LateAgain, LatePicks, LongTargets, LongWords, LongKeys, LongKeyWords, ShortHolders, LongHolders, ShortKeyHolders, LongKeyHolders, LongCleanups}
+use Rattle.fz_machine.specs.declared.phase.Phase.TheVariants.{Keys, KeysAgain, Holders, Values, Regions, ShortCleanups, ShortTargets, ShortWords, ShortKeys, ShortKeyWords, Objects, Children, Again, Picks, LateAgain, LatePicks, LongTargets, LongWords, LongKeys, LongKeyWords, ShortHolders, LongHolders, ShortKeyHolders, LongKeyHolders, LongCleanups}
 use Rattle.fz_machine.specs.declared.question.Ask.TheVariants.{MarkAlone}
 use Rattle.fz_machine.specs.Graph.{Graph, IsHonest}
 use Rattle.fz_machine.specs.Items.{of_other, place_of}
 use Rattle.fz_machine.specs.Machines.{TellsIn}
 use Rattle.fz_machine.specs.Off.{PutOff, put_off}
-use Rattle.fz_machine.specs.Phases.{after, asks, child_ask, keeps, pick_ask, subject, without_key}
+use Rattle.fz_machine.specs.Phases.{after, ask_of, child_ask, is_known, keeps, pick_ask, subject, without_key}
 use Rattle.fz_machine.proofs.Among.{AreInOrder, OneOf, each_push, one_last, one_left, order_after, order_without}
 use Rattle.fz_machine.proofs.Begun.{HasBegun, births, late_led, late_starts, late_there, normal, only_long, only_short, others_led, registered, starts}
 use Rattle.fz_machine.proofs.Cleaning.{cleaning_on}
@@ -99,7 +100,7 @@ module _ (E : Type 0) (word_of : ℕ → Option ℕ) (value : Map Object → ℕ
         by object word (inr k) = inr k
 
     -- another is picked
-    module _ (r : Registration) (here : get b.registrations item.object ≡ Some r) (off : contains b.late item.object ≡ false) (is : item ≡ of_other (item.object, r)) (same : new.objects ≡ h.objects) (m : Marks E clearly h.marked new.marked (Leads clearly item.object)) where
+    module _ (r : Registration) (here : get b.registrations item.object ≡ Some r) (off : contains b.late item.object ≡ false) (is : item ≡ of_other item.known (item.object, r)) (same : new.objects ≡ h.objects) (m : Marks E clearly h.marked new.marked (Leads clearly item.object)) where
       unskipped : skips false (contains b.late) p.leading.led item.object ≡ false
       unskipped = unskips false (contains b.late) p.leading.led item.object off p.left_are.0.1
 
@@ -266,7 +267,7 @@ module _ (E : Type 0) (word_of : ℕ → Option ℕ) (value : Map Object → ℕ
   -- ---- while the marks become whole
 
   settles_on : (moment : Moment) (phase : Phase) (s : State) (kept left aside : List Item) (off : PutOff) (item : Item) (h new : Graph) → IsSettling E word_of value b before moment phase s kept (item ∷ left) aside off h → (answer : Bool)
-      → IsHonest E word_of value (asks phase item) (subject phase item) h answer new
+      → IsHonest E word_of value (ask_of phase item) (subject phase item) h answer new
       → IsSettling E word_of value b before moment phase s (kept_on (keeps phase item answer) kept item) left aside (put_off phase item answer off) new
   settles_on moments.First phase s kept left aside off item h new p answer honest = absurd p
   settles_on moments.Led phase s kept left aside off item h new (w, p) answer honest = (w, looks_on E word_of value clearly (judged E word_of value b before) w.marked phase kept left off item h new p answer honest)
@@ -288,18 +289,19 @@ module _ (E : Type 0) (word_of : ℕ → Option ℕ) (value : Map Object → ℕ
   told key phase s kept left aside older newer h tells p = subst (λ (off : PutOff). IsIn E word_of value b before phase s kept left aside off h) (sym tells) p
 
   pub keep : (phase : Phase) (s : State) (kept left aside : List Item) (off : PutOff) (item : Item) (h new : Graph) → IsIn E word_of value b before phase s kept (item ∷ left) aside off h → (answer : Bool)
-      → IsHonest E word_of value (asks phase item) (subject phase item) h answer new
+      → IsHonest E word_of value (ask_of phase item) (subject phase item) h answer new
       → IsIn E word_of value b before phase (after phase item answer s) (kept_on (keeps phase item answer) kept item) left aside (put_off phase item answer off) new
   keep (Keys moment) s kept left aside off item h new p answer honest = settles_on moment (Keys moment) s kept left aside off item h new p answer honest
   keep (KeysAgain moment) s kept left aside off item h new p answer honest = settles_on moment (KeysAgain moment) s kept left aside off item h new p answer honest
   keep (Holders moment) s kept left aside off item h new p answer honest = settles_on moment (Holders moment) s kept left aside off item h new p answer honest
   keep (Values moment) s kept left aside off item h new p answer honest = settles_on moment (Values moment) s kept left aside off item h new p answer honest
+  keep (Regions sweep) s kept left aside off item h new p answer honest = absurd p
   keep ShortCleanups s kept left aside off item h new p answer honest = absurd p
-  keep ShortTargets s kept left aside off item h new p answer honest = sifts_on E word_of value _ _ _ _ _ s kept left item h new p answer honest
+  keep ShortTargets s kept left aside off item h new (p, known) answer honest = (sifts_on E word_of value _ _ _ _ _ s kept left item h new p answer honest, known.1)
   keep ShortWords s kept left aside off item h new p answer honest = clears_on E word_of value _ _ _ _ (λ t word. record t { short = remove t.short word }) (λ now word target here. refl) s left item h new p answer honest
   keep ShortKeys s kept left aside off item h new p answer honest = sifts_on E word_of value _ _ _ _ _ s kept left item h new p answer honest
   keep ShortKeyWords s kept left aside off item h new p answer honest = clears_on E word_of value _ _ _ _ without_key key_word_on s left item h new p answer honest
-  keep Objects s kept left aside off item h new p answer honest = sifts_on E word_of value _ _ _ _ _ s kept left item h new p answer honest
+  keep Objects s kept left aside off item h new (p, known) answer honest = (sifts_on E word_of value _ _ _ _ _ s kept left item h new p answer honest, known.1)
   keep Children s kept left aside off item h new p answer honest = leads_on s kept left item h new p answer honest
   keep Again s kept left aside off item h new (l, p) answer honest = (l, sifts_on E word_of value _ _ _ _ _ s kept left item h new p answer honest)
   keep Picks s kept left aside off item h new p answer honest = picks_on s kept left item h new p answer honest
@@ -309,16 +311,16 @@ module _ (E : Type 0) (word_of : ℕ → Option ℕ) (value : Map Object → ℕ
       by true = order_without place_of kept item left ordered
       by false = subst (AreInOrder place_of) (sym (append_assoc kept (item ∷ []) left)) ordered
   keep LatePicks s kept left aside off item h new p answer honest = picks_late_on s left item h new p answer honest
-  keep LongTargets s kept left aside off item h new (c, p) answer honest = (c, sifts_on E word_of value _ _ _ _ _ s kept left item h new p answer honest)
+  keep LongTargets s kept left aside off item h new (c, p, known) answer honest = (c, sifts_on E word_of value _ _ _ _ _ s kept left item h new p answer honest, known.1)
   keep LongWords s kept left aside off item h new (c, p) answer honest =
       (c, clears_on E word_of value _ _ _ _ (λ t word. record t { long = remove t.long word }) (λ now word target here. refl) s left item h new p answer honest)
   keep LongKeys s kept left aside off item h new (c, p) answer honest = (c, sifts_on E word_of value _ _ _ _ _ s kept left item h new p answer honest)
   keep LongKeyWords s kept left aside off item h new (c, p) answer honest =
       (c, clears_on E word_of value _ _ _ _ without_key (long_key_on c shorts (long_left E word_of value b before c) keys no_keys) s left item h new p answer honest)
-  keep ShortHolders s kept left aside off item h new (c, p) answer honest =
-      (c, holds_on E word_of value _ _ _ _ (λ t word. record t { short = remove t.short word }) (λ now word target here. refl) s left item h new p answer honest)
-  keep LongHolders s kept left aside off item h new (c, p) answer honest =
-      (c, holds_on E word_of value _ _ _ _ (λ t word. record t { long = remove t.long word }) (λ now word target here. refl) s left item h new p answer honest)
+  keep ShortHolders s kept left aside off item h new (c, p, known) answer honest =
+      (c, holds_on E word_of value _ _ _ _ (λ t word. record t { short = remove t.short word }) (λ now word target here. refl) s left item h new p answer honest, known.1)
+  keep LongHolders s kept left aside off item h new (c, p, known) answer honest =
+      (c, holds_on E word_of value _ _ _ _ (λ t word. record t { long = remove t.long word }) (λ now word target here. refl) s left item h new p answer honest, known.1)
   keep ShortKeyHolders s kept left aside off item h new (c, p) answer honest = (
     c,
     holds_on E word_of value _ _ _ _ without_key
@@ -330,4 +332,20 @@ module _ (E : Type 0) (word_of : ℕ → Option ℕ) (value : Map Object → ℕ
         (λ now word key here. long_key_on c (short_held E word_of value b before c) (long_held E word_of value b before c) (keys_held E word_of value b before c) (λ w none. retained_none keys _ w (no_keys w none)) now word key (retained_before b.ephemerons.long _ word key here))
         s left item h new p answer honest,
   )
-  keep LongCleanups s kept left aside off item h new (c, p) answer honest = (c, cleaning_on E word_of value _ _ _ _ s left item h new p answer honest)
+  keep LongCleanups s kept left aside off item h new (c, p, known) answer honest = (c, cleaning_on E word_of value _ _ _ _ s left item h new p answer honest, known.1)
+
+  -- ---- what is known
+
+  abbrev IsFalseAnswer : Phase → Item → Graph → Type 0
+  IsFalseAnswer phase item h = IsHonest E word_of value (ask_of phase item) (subject phase item) h false h
+
+  -- an item that isn't asked about would be answered by false
+  pub known_so : (phase : Phase) (s : State) (kept left aside : List Item) (off : PutOff) (item : Item) (h : Graph) → IsIn E word_of value b before phase s kept (item ∷ left) aside off h → IsTrue (is_known phase item) → IsFalseAnswer phase item h
+  known_so ShortTargets s kept left aside off item h (p, known) is = λ may. (sym (ap (λ (m : ℕ → Bool). m item.object) p.marks_are ∙ known.0 is), refl)
+  known_so Objects s kept left aside off item h (p, known) is = λ may. (sym (ap (λ (m : ℕ → Bool). m item.object) p.marks_are ∙ known.0 is), refl)
+  known_so LongTargets s kept left aside off item h (c, p, known) is = λ may. (sym (ap (λ (m : ℕ → Bool). m item.object) p.marks_are ∙ known.0 is), refl)
+  known_so ShortHolders s kept left aside off item h (c, p, known) is = λ may. (sym ((λ i. is_held word_of (p.objects_are i) (p.marks_are i) item.word) ∙ known.0 is), refl)
+  known_so LongHolders s kept left aside off item h (c, p, known) is = λ may. (sym ((λ i. is_held word_of (p.objects_are i) (p.marks_are i) item.word) ∙ known.0 is), refl)
+  known_so LongCleanups s kept left aside off item h (c, p, known) is = λ may. (sym (ap (λ (m : ℕ → Bool). m item.object) p.marks_are ∙ known.0 is), refl)
+  known_so ShortCleanups s kept left aside off item h p is = absurd p
+  known_so phase s kept left aside off item h p is = absurd (true≢false (sym is))

@@ -10,21 +10,18 @@ pub mod Ending
 pub mod Known
 pub mod Places
 pub mod Noting
-pub mod Regioned
 pub mod Remaining
-pub mod Marked
-pub mod Hearing
-pub mod Settling
+pub mod Tabled
+pub mod Turned
 pub mod Asked
-pub mod Remained
 pub mod Renewed
-pub mod Retold
+pub mod Renoted
 pub mod Among
+pub mod Honest
 pub mod Sifting
 pub mod DeadWords
 pub mod Entered
 pub mod Ordered
-pub mod Younger
 pub mod Led
 pub mod Chosen
 pub mod Due
@@ -35,6 +32,7 @@ pub mod Cleaning
 pub mod Delayed
 pub mod Told
 pub mod Waiting
+pub mod Swept
 pub mod Phased
 pub mod Begun
 pub mod Keeping
@@ -42,12 +40,13 @@ pub mod Turning
 pub mod Within
 pub mod Throughout
 pub mod Working
+pub mod Less
 pub mod Worked
 pub mod Rounds
 pub mod Opening
 pub mod Ran
 pub mod Fewer
+pub mod Spent
 pub mod Called
 pub mod Rowed
 mod Askable
-mod Honest

@@ -1,11 +1,12 @@
 -- A list that is filled from the entries of a map.
-use Rattle.std.proofs.Common.{◌≡◌, ◌++◌, ◌≤◌, ◌<◌, ◌+◌, ℕ, List, [], ◌∷◌, map, length, refl, sym, ap, ◌∙◌, append_assoc, append-nil, arith}
+use Rattle.std.proofs.Common.{◌≡◌, ◌++◌, ◌≤◌, ◌<◌, ◌+◌, ℕ, false, not, filter, List, [], ◌∷◌, map, length, refl, sym, ap, ◌∙◌, append_assoc, append-nil, arith}
 use Rattle.std.proofs.lemmas.List.{map-append, length-append, length-map}
 use Rattle.std.specs.FinMap.{len}
 use Rattle.fz_model.specs.State.{Map}
 use Rattle.fz_model.proofs.KeyedEntries.{len_made}
 use Rattle.fz_machine.specs.declared.item.Item.{Item}
-use Rattle.fz_machine.specs.Items.{AreLinks, of_link}
+use Rattle.fz_machine.specs.Items.{AreLinks, of_link, target_of}
+use Rattle.fz_machine.specs.Regions.{is_marked, is_unmarked}
 
 module _ {X Y : Type 0} (f : X → Y) (before : List Y) (es : List X) where
   -- the entries that were yielded stand on the list, behind what stood there
@@ -36,6 +37,11 @@ module _ {X Y : Type 0} (f : X → Y) (before : List Y) (es : List X) where
     pub may_put : (room long : ℕ) (next : List X) (e : X) → it ≡ e ∷ next → long ≡ length items → length before + length es ≤ room → long < room
     may_put room long next e steps is enough = let left = ap length steps in let few = are.few in omega (arith, left, few, enough, is)
 
+-- where nothing was told, all are listed
+pub untold : (es : List (ℕ × ℕ)) → map (of_link false) es ≡ map (λ (e : ℕ × ℕ). of_link (is_unmarked [] (target_of e)) e) (filter (λ (e : ℕ × ℕ). not (is_marked [] (target_of e))) es)
+untold [] = refl
+untold (e ∷ es) = ap (λ xs. of_link false e ∷ xs) (untold es)
+
 -- as many items as links
-pub links_count : (links : Map ℕ) (items : List Item) → AreLinks links items → length items ≡ len links
-links_count links items are = ap length are.2 ∙ length-map are.0 of_link ∙ sym (len_made are.0 are.1.1) ∙ ap len are.1.0
+pub links_count : (links : Map ℕ) (items : List Item) → AreLinks target_of [] links items → length items ≡ len links
+links_count links items are = ap length (are.2 ∙ sym (untold are.0)) ∙ length-map are.0 (of_link false) ∙ sym (len_made are.0 are.1.1) ∙ ap len are.1.0

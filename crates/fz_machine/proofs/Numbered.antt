@@ -1,7 +1,7 @@
 -- What is asked is told by its number.
 use Rattle.std.proofs.Common.{◌≡◌, ℕ, zero, suc, refl, sym, ap, ◌∙◌}
 use Rattle.fz_machine.specs.declared.question.Ask.{Ask}
-use Rattle.fz_machine.specs.declared.question.Ask.TheVariants.{IsMarked, MarkChildren, MarkOthers, Mark, MarkAlone, Clear, IsHolderMarked, Marks, MarkValue}
+use Rattle.fz_machine.specs.declared.question.Ask.TheVariants.{IsMarked, MarkChildren, MarkOthers, Mark, MarkAlone, Clear, IsHolderMarked, Marks, Live, MarkValue}
 use Rattle.fz_machine.specs.Asks.{number_of}
 
 abbrev ask_of : ℕ → Ask
@@ -14,7 +14,8 @@ ask_of (suc (suc (suc (suc (suc zero))))) = MarkAlone
 ask_of (suc (suc (suc (suc (suc (suc zero)))))) = Clear
 ask_of (suc (suc (suc (suc (suc (suc (suc zero))))))) = IsHolderMarked
 ask_of (suc (suc (suc (suc (suc (suc (suc (suc zero)))))))) = Marks
-ask_of (suc (suc (suc (suc (suc (suc (suc (suc (suc n))))))))) = MarkValue
+ask_of (suc (suc (suc (suc (suc (suc (suc (suc (suc zero))))))))) = Live
+ask_of (suc (suc (suc (suc (suc (suc (suc (suc (suc (suc n)))))))))) = MarkValue
 
 back : (ask : Ask) → ask_of (number_of ask) ≡ ask
 back IsMarked = refl
@@ -25,6 +26,7 @@ back MarkAlone = refl
 back Clear = refl
 back IsHolderMarked = refl
 back Marks = refl
+back Live = refl
 back MarkValue = refl
 
 pub same_ask : (a b : Ask) → number_of a ≡ number_of b → a ≡ b

@@ -1,5 +1,5 @@
 -- Cleanups that are listed and sorted are in order.
-use Rattle.std.proofs.Common.{◌&&◌, None, nat_le, ◌≡◌, ◌≢◌, ◌≤◌, ◌<◌, ◌+◌, ◌*◌, ◌^◌, ◌++◌, ◌∷◌, ◌∙◌, [], ℕ, zero, suc, Bool, true, false, cond, List, length, filter, map, set, get_or, Some, All, AllPairs, nat_eq, refl, sym, ap, subst, inl, inr, ⊎_elim, append-nil, arith, IsTrue}
+use Rattle.std.proofs.Common.{◌&&◌, not, None, nat_le, ◌≡◌, ◌≢◌, ◌≤◌, ◌<◌, ◌+◌, ◌*◌, ◌^◌, ◌++◌, ◌∷◌, ◌∙◌, [], ℕ, zero, suc, Bool, true, false, cond, List, length, filter, map, set, get_or, Some, All, AllPairs, nat_eq, refl, sym, ap, subst, inl, inr, ⊎_elim, append-nil, arith, IsTrue}
 use Rattle.std.proofs.lemmas.Bool.{and_parts, both_ways, cases_lt, eq-eqb, eqb-true}
 use Rattle.std.proofs.lemmas.List.{get_or-map, length-map, map-append, map-set}
 use Rattle.std.proofs.lemmas.List.Elements.{All-filter, All-push, filter-append, filter_passes}
@@ -20,7 +20,8 @@ use Rattle.fz_finalizers.specs.declared.cleanups.Attached.{Attached}
 use Rattle.fz_finalizers.specs.Cleanups.{ComesFirst, is_when}
 use Rattle.fz_finalizers.proofs.Promised.{kept_in}
 use Rattle.fz_machine.specs.declared.item.Item.{Item}
-use Rattle.fz_machine.specs.Items.{AreCleanups, AreEntriesOf, of_cleanup}
+use Rattle.fz_machine.specs.Items.{AreCleanups, AreEntriesOf, is_listed, of_cleanup}
+use Rattle.fz_machine.specs.Regions.{is_marked, is_unmarked}
 use Rattle.fz_machine.proofs.Among.{each_all}
 use Rattle.fz_machine.proofs.Entered.{stands}
 
@@ -58,19 +59,12 @@ pub words_more : (b : Bool) (xs : List Item) (x : Item) → x.word < 2 ^ 64 → 
 words_more true xs x lt all = All-push (λ (i : Item). i.word < 2 ^ 64) xs x all lt
 words_more false xs x lt all = all
 
-module _ (from : ℕ) (when : LinkKind) where
+module _ (from : ℕ) (told : List (ℕ × ℕ)) (when : LinkKind) where
   abbrev test : ℕ × Attached → Bool
-  test e = nat_le from e.0 && is_when when e.1.cleanup.when
+  test = is_listed from told when
 
-  abbrev pub items_of : List (ℕ × Attached) → List Item
-  items_of es = map of_cleanup (filter test es)
-
-  pub items_more : (es : List (ℕ × Attached)) (e : ℕ × Attached) → items_of (es ++ e ∷ []) ≡ cond (test e) (items_of es ++ of_cleanup e ∷ []) (items_of es)
-  items_more es e = ap (map of_cleanup) (filter-append test es (e ∷ [])) ∙ map-append of_cleanup (filter test es) (filter test (e ∷ [])) ∙ by (test e)
-    where
-      by : (b : Bool) → items_of es ++ map of_cleanup (cond b (e ∷ []) []) ≡ cond b (items_of es ++ of_cleanup e ∷ []) (items_of es)
-      by true = refl
-      by false = append-nil (items_of es)
+  abbrev item_of : ℕ × Attached → Item
+  item_of e = of_cleanup (is_unmarked told e.1.object) e
 
   module _ (cleanups : Map Attached) (es : List (ℕ × Attached)) (are : AreEntriesOf cleanups es) (cs : List (ℕ × Attached)) (same : IsPermutation (filter test es) cs) where
     abbrev IsOne : ℕ × Attached → Type 0
@@ -92,20 +86,20 @@ module _ (from : ℕ) (when : LinkKind) where
         flips : (x y : ℕ) → nat_eq x y ≡ nat_eq y x
         flips x y = same_test (nat_eq x y) (nat_eq y x) (λ on. eq-eqb y x (sym (eqb-true x y on))) (λ on. eq-eqb x y (sym (eqb-true y x on)))
 
-    in_order : AreWords (map of_cleanup cs) → IsNonDecreasingBy numbered (map of_cleanup cs) → AllPairs ComesFirst cs
+    in_order : AreWords (map item_of cs) → IsNonDecreasingBy numbered (map item_of cs) → AllPairs ComesFirst cs
     in_order words up i j d lt within =
         let x = get_or cs i d in
         let y = get_or cs j d in
-        let long = length-map cs of_cleanup in
+        let long = length-map cs item_of in
         let first : i < length cs = omega (arith, lt, within) in
-        let at_x = get_or-map of_cleanup cs i d (of_cleanup d) first in
-        let at_y = get_or-map of_cleanup cs j d (of_cleanup d) within in
-        let below : y.0 < 2 ^ 64 = subst (λ (k : Item). k.word < 2 ^ 64) at_y (words j (of_cleanup d) (omega (arith, within, long))) in
-        let under : x.0 < 2 ^ 64 = subst (λ (k : Item). k.word < 2 ^ 64) at_x (words i (of_cleanup d) (omega (arith, first, long))) in
-        let le : numbered (of_cleanup x) ≤ numbered (of_cleanup y) = subst (λ (k : Item). numbered k ≤ numbered (of_cleanup y)) at_x (subst (λ (k : Item). numbered (get_or (map of_cleanup cs) i (of_cleanup d)) ≤ numbered k) at_y (up i j (of_cleanup d) (omega (arith, lt)) (omega (arith, within, long)))) in
+        let at_x = get_or-map item_of cs i d (item_of d) first in
+        let at_y = get_or-map item_of cs j d (item_of d) within in
+        let below : y.0 < 2 ^ 64 = subst (λ (k : Item). k.word < 2 ^ 64) at_y (words j (item_of d) (omega (arith, within, long))) in
+        let under : x.0 < 2 ^ 64 = subst (λ (k : Item). k.word < 2 ^ 64) at_x (words i (item_of d) (omega (arith, first, long))) in
+        let le : numbered (item_of x) ≤ numbered (item_of y) = subst (λ (k : Item). numbered k ≤ numbered (item_of y)) at_x (subst (λ (k : Item). numbered (get_or (map item_of cs) i (item_of d)) ≤ numbered k) at_y (up i j (item_of d) (omega (arith, lt)) (omega (arith, within, long)))) in
         by x y under below le (apart i j d lt within)
       where
-        by : (x y : ℕ × Attached) → x.0 < 2 ^ 64 → y.0 < 2 ^ 64 → numbered (of_cleanup x) ≤ numbered (of_cleanup y) → x.0 ≢ y.0 → ComesFirst x y
+        by : (x y : ℕ × Attached) → x.0 < 2 ^ 64 → y.0 < 2 ^ 64 → numbered (item_of x) ≤ numbered (item_of y) → x.0 ≢ y.0 → ComesFirst x y
         by x y under below le differ =
             ⊎_elim (λ (lower : x.1.cleanup.rank < y.1.cleanup.rank). inl lower)
             (λ (higher : y.1.cleanup.rank ≤ x.1.cleanup.rank).
@@ -114,14 +108,14 @@ module _ (from : ℕ) (when : LinkKind) where
             inr (ranks, numbers))
             (cases_lt x.1.cleanup.rank y.1.cleanup.rank)
 
-    pub are_cleanups : (items : List Item) → items ≡ map of_cleanup cs → AreWords items → IsNonDecreasingBy numbered items → AreCleanups from when cleanups items
+    pub are_cleanups : (items : List Item) → items ≡ map item_of cs → AreWords items → IsNonDecreasingBy numbered items → AreCleanups from told when cleanups items
     are_cleanups items is words up = (
       cs,
       record {
         each = λ k d within.
             let e = get_or cs k d in
             let one = ones k d within in
-            let parts = and_parts (nat_le from e.0) (is_when when e.1.cleanup.when) one.1 in
+            let parts = and_parts (nat_le from e.0) (is_when when e.1.cleanup.when && not (is_marked told e.1.object)) one.1 in
             (get-retain cleanups (nat_le from) e.0 ∙ ap (λ t. cond t (get cleanups e.0) None) parts.0 ∙ one.0, parts.1);
         whole = λ number c here on.
             let back = retained_back cleanups (nat_le from) number c here in

@@ -8,7 +8,7 @@ use Rattle.fz_model.specs.Pass.{cleared}
 use Rattle.fz_pass.specs.Holds.{Ephemerons, IsOfKey, Settles}
 use Rattle.fz_pass.specs.Marks.{Marks, AreReached, with_targets, with_holders}
 use Rattle.fz_pass.specs.Picking.{Picks}
-use Rattle.fz_pass.specs.Places.{placed}
+use Rattle.fz_pass.specs.Places.{is_held, placed}
 use Rattle.fz_pass.specs.Queued.{MarksLed, is_ready}
 use Rattle.fz_pass.specs.Tiers.{skips}
 use Rattle.fz_model.specs.declared.kinds.LinkKind.TheVariants.{Long}
@@ -19,21 +19,22 @@ use Rattle.fz_machine.specs.declared.item.Item.{Item}
 use Rattle.fz_machine.specs.declared.phase.Moment.{Moment}
 use Rattle.fz_machine.specs.declared.phase.Moment.TheVariants as moments
 use Rattle.fz_machine.specs.declared.phase.Phase.{Phase}
-use Rattle.fz_machine.specs.declared.phase.Phase.TheVariants.{Keys, KeysAgain, Holders, Values, ShortCleanups, ShortTargets, ShortWords, ShortKeys, ShortKeyWords, Objects, Children, Again, LateAgain, LatePicks, LongTargets, LongWords, LongKeys, LongKeyWords, ShortHolders, LongHolders, ShortKeyHolders, LongKeyHolders, LongCleanups}
+use Rattle.fz_machine.specs.declared.phase.Phase.TheVariants.{Keys, KeysAgain, Holders, Values, Regions, ShortCleanups, ShortTargets, ShortWords, ShortKeys, ShortKeyWords, Objects, Children, Again, LateAgain, LatePicks, LongTargets, LongWords, LongKeys, LongKeyWords, ShortHolders, LongHolders, ShortKeyHolders, LongKeyHolders, LongCleanups}
 use Rattle.fz_machine.specs.declared.phase.Phase.TheVariants as phase
 use Rattle.fz_machine.specs.Graph.{Graph}
 use Rattle.fz_machine.specs.Items.{place_of}
 use Rattle.fz_machine.specs.Off.{PutOff}
-use Rattle.fz_machine.specs.Phases.{Scope, Lists, given, aside_in, off_in}
 use Rattle.fz_machine.proofs.Among.{Each, OneOf, AreInOrder}
 use Rattle.fz_machine.proofs.Chosen.{AreChosen}
 use Rattle.fz_machine.proofs.Cleaning.{Cleaning}
 use Rattle.fz_machine.proofs.DeadWords.{IsLink, IsLinkAt}
+use Rattle.fz_machine.proofs.Honest.{IsFalseOf, object_of, word_in}
 use Rattle.fz_machine.proofs.Entered.{IsLate, IsOfEither, IsLateAt, IsEitherAt}
 use Rattle.fz_machine.proofs.Led.{AreLed}
 use Rattle.fz_machine.proofs.Phasing.{Sifts, Clears, Holds}
 use Rattle.fz_machine.proofs.Sifting.{IsAt}
 use Rattle.fz_machine.proofs.Stated.{state_with, tabled, with_keys}
+use Rattle.fz_machine.proofs.Swept.{Begins}
 use Rattle.fz_machine.proofs.Waiting.{Looks}
 
 module _ (E : Type 0) (word_of : ℕ → Option ℕ) (value : Map Object → ℕ → Option ℕ) (b : State) (before : Graph) where
@@ -205,19 +206,28 @@ module _ (E : Type 0) (word_of : ℕ → Option ℕ) (value : Map Object → ℕ
 
   -- ---- all phases behind the first
 
+  -- items of which it is known that they aren't marked, or that their words aren't held, are so
+  abbrev pub AreUnmarked : (ℕ → Bool) → List Item → Type 0
+  AreUnmarked marked = Each (IsFalseOf marked object_of)
+
+  abbrev pub AreUnheld : PickedBoth → List Item → Type 0
+  AreUnheld c = Each (IsFalseOf (λ n. is_held word_of (last c) c.kept n) word_in)
+
   abbrev pub IsIn : Phase → State → List Item → List Item → List Item → PutOff → Graph → Type 0
   IsIn (Keys moment) s kept left aside off h = IsSettling moment (Keys moment) s kept left aside off h
   IsIn (KeysAgain moment) s kept left aside off h = IsSettling moment (KeysAgain moment) s kept left aside off h
   IsIn (Holders moment) s kept left aside off h = IsSettling moment (Holders moment) s kept left aside off h
   IsIn (Values moment) s kept left aside off h = IsSettling moment (Values moment) s kept left aside off h
+  IsIn (Regions sweep) s kept left aside off h = ⊥
   IsIn ShortCleanups s kept left aside off h = ⊥
   IsIn ShortTargets s kept left aside off h =
       Sifts E word_of value (begun_with b.short b.ephemerons.short) before.objects found (IsLink word_of before.objects b.short found) (IsLinkAt word_of before.objects b.short found) s kept left h
+      × AreUnmarked found left
   IsIn ShortWords s kept left aside off h = Clears E word_of value (λ links. begun_with links b.ephemerons.short) before.objects b.short found s left h
   IsIn ShortKeys s kept left aside off h =
       Sifts E word_of value (begun_with short_left b.ephemerons.short) cleared_links found (IsLink word_of cleared_links b.ephemerons.short found) (IsLinkAt word_of cleared_links b.ephemerons.short found) s kept left h
   IsIn ShortKeyWords s kept left aside off h = Clears E word_of value (λ keys. begun_with short_left keys) cleared_links b.ephemerons.short found s left h
-  IsIn Objects s kept left aside off h = Sifts E word_of value (begun_with short_left keys_left) clear found (IsOfEither b.registrations b.late) (IsEitherAt b.registrations b.late) s kept left h
+  IsIn Objects s kept left aside off h = Sifts E word_of value (begun_with short_left keys_left) clear found (IsOfEither b.registrations b.late) (IsEitherAt b.registrations b.late) s kept left h × AreUnmarked found left
   IsIn Children s kept left aside off h = LeadsOn s kept left h
   IsIn Again s kept left aside off h = (l : Leading) × Sifts E word_of value (begun_with short_left keys_left) clear l.led (IsOfEither b.registrations b.late) (IsEitherAt b.registrations b.late) s kept left h
   IsIn phase.Picks s kept left aside off h = PicksOn s kept left h
@@ -226,15 +236,16 @@ module _ (E : Type 0) (word_of : ℕ → Option ℕ) (value : Map Object → ℕ
   IsIn LatePicks s kept left aside off h = PicksLate s left h
   IsIn LongTargets s kept left aside off h =
       (c : PickedBoth) × Sifts E word_of value (after_picks c short_left b.long keys_left b.ephemerons.long) clear c.kept (IsLink word_of clear b.long c.kept) (IsLinkAt word_of clear b.long c.kept) s kept left h
+      × AreUnmarked c.kept left
   IsIn LongWords s kept left aside off h = (c : PickedBoth) × Clears E word_of value (λ links. after_picks c short_left links keys_left b.ephemerons.long) clear b.long c.kept s left h
   IsIn LongKeys s kept left aside off h =
       (c : PickedBoth) × Sifts E word_of value (after_picks c short_left (long_left c) keys_left b.ephemerons.long) (last_links c) c.kept (IsLink word_of (last_links c) b.ephemerons.long c.kept) (IsLinkAt word_of (last_links c) b.ephemerons.long c.kept) s kept left h
   IsIn LongKeyWords s kept left aside off h = (c : PickedBoth) × Clears E word_of value (λ keys. after_picks c short_left (long_left c) keys_left keys) (last_links c) b.ephemerons.long c.kept s left h
-  IsIn ShortHolders s kept left aside off h = (c : PickedBoth) × Holds E word_of value (λ links. after_picks c links (long_left c) keys_left (long_keys_left c)) (last c) short_left c.kept s left h
-  IsIn LongHolders s kept left aside off h = (c : PickedBoth) × Holds E word_of value (λ links. after_picks c (short_held c) links keys_left (long_keys_left c)) (last c) (long_left c) c.kept s left h
+  IsIn ShortHolders s kept left aside off h = (c : PickedBoth) × Holds E word_of value (λ links. after_picks c links (long_left c) keys_left (long_keys_left c)) (last c) short_left c.kept s left h × AreUnheld c left
+  IsIn LongHolders s kept left aside off h = (c : PickedBoth) × Holds E word_of value (λ links. after_picks c (short_held c) links keys_left (long_keys_left c)) (last c) (long_left c) c.kept s left h × AreUnheld c left
   IsIn ShortKeyHolders s kept left aside off h = (c : PickedBoth) × Holds E word_of value (λ keys. after_picks c (short_held c) (long_held c) keys (long_keys_left c)) (last c) keys_left c.kept s left h
   IsIn LongKeyHolders s kept left aside off h = (c : PickedBoth) × Holds E word_of value (λ keys. after_picks c (short_held c) (long_held c) (keys_held c) keys) (last c) (long_keys_left c) c.kept s left h
-  IsIn LongCleanups s kept left aside off h = (c : PickedBoth) × Cleaning E word_of value Long (passed c) (last c) c.kept s left h
+  IsIn LongCleanups s kept left aside off h = (c : PickedBoth) × Cleaning E word_of value Long (passed c) (last c) c.kept s left h × AreUnmarked c.kept left
 
   -- ---- the end
 
@@ -245,6 +256,6 @@ module _ (E : Type 0) (word_of : ℕ → Option ℕ) (value : Map Object → ℕ
     pub marks_are : h.marked ≡ chosen.kept
 
   -- the next phase, whatever it lists, or the end
-  abbrev pub IsAfter : Scope → Option Phase → State → List Item → List Item → PutOff → Graph → Type 0
-  IsAfter scope None s kept aside off h = IsAtEnd s h
-  IsAfter scope (Some p) s kept aside off h = (items : List Item) → Lists p scope s (given p kept aside off) items → IsIn p s [] items (aside_in p kept aside) (off_in p off) h
+  abbrev pub IsAfter : ℕ → Option Phase → State → List Item → List Item → PutOff → Graph → Type 0
+  IsAfter from None s kept aside off h = IsAtEnd s h
+  IsAfter from (Some p) s kept aside off h = Begins word_of IsIn from p s kept aside off h

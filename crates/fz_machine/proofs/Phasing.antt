@@ -1,6 +1,6 @@
 -- Phases that ask and clear, over whichever links and registrations.
-use Rattle.std.proofs.Common.{◌≡◌, ◌++◌, ◌∷◌, ◌∙◌, [], ℕ, Bool, true, false, not, cond, List, Some, sym, ap, subst, Option}
-use Rattle.std.specs.FinMap.{get, remove}
+use Rattle.std.proofs.Common.{◌≡◌, ◌++◌, ◌∷◌, ◌∙◌, [], ℕ, Bool, true, false, not, cond, List, Some, is_some, sym, ap, subst, Option, IsTrue}
+use Rattle.std.specs.FinMap.{contains_key, get, remove}
 use Rattle.fz_model.specs.State.{Map, Object}
 use Rattle.fz_model.specs.Pass.{cleared}
 use Rattle.fz_pass.specs.Marks.{AreTargets, with_targets, with_holders}
@@ -10,9 +10,11 @@ use Rattle.fz_machine.specs.declared.item.Item.{Item}
 use Rattle.fz_machine.specs.declared.question.Ask.TheVariants.{IsMarked, Clear, IsHolderMarked}
 use Rattle.fz_machine.specs.Graph.{Graph, IsHonest}
 use Rattle.fz_machine.specs.Items.{AreLinks}
-use Rattle.fz_machine.proofs.Among.{Each, OneOf}
+use Rattle.fz_machine.specs.Items as the
+use Rattle.fz_machine.proofs.Among.{Each, OneOf, each_as}
 use Rattle.fz_machine.proofs.DeadWords.{AreCleared, AreHeld, IsLink, IsLinkAt, clearing_begins, clear_more, cleared_all, dead_link, hold_more, holding_begins, held_all}
-use Rattle.fz_machine.proofs.Entered.{links_all, links_each}
+use Rattle.fz_machine.proofs.Entered.{links_all, links_each, links_known}
+use Rattle.fz_machine.proofs.Honest.{IsFalseOf, Knows, known_false, not_told, object_of, word_in}
 use Rattle.fz_machine.proofs.Sifting.{Sifted, IsAt, sift, sift_begins}
 
 -- whether an item is kept, as a phase goes on
@@ -42,6 +44,21 @@ module _ (E : Type 0) (word_of : ℕ → Option ℕ) (value : Map Object → ℕ
   pub sifts_begin : (s : State) (items : List Item) (h : Graph) → s ≡ at → h.objects ≡ objects → h.marked ≡ marked → Each P items
       → ((object word : ℕ) → Wanted object word → marked object ≡ false → OneOf (IsAt object word) items) → Sifts s [] items h
   sifts_begin s items h state objects_are marks_are are all = record { state = state; objects_are = objects_are; marks_are = marks_are; sifted = sift_begins marked P Wanted items are all }
+
+-- ---- which targets of links are marked
+
+module _ (E : Type 0) (word_of : ℕ → Option ℕ) (value : Map Object → ℕ → Option ℕ) (at : State) (objects : Map Object) (links : Map ℕ) (marked : ℕ → Bool) where
+  abbrev IsTarget : ℕ → Type 0
+  IsTarget n = (word : ℕ) × (get links word ≡ Some n)
+
+  pub targets_begin : (told : List (ℕ × ℕ)) → Knows marked IsTarget told → (s : State) (items : List Item) (h : Graph) → s ≡ at → h.objects ≡ objects → h.marked ≡ marked → AreLinks the.target_of told links items
+      → Sifts E word_of value at objects marked (IsLink word_of objects links marked) (IsLinkAt word_of objects links marked) s [] items h × Each (IsFalseOf marked object_of) items
+  targets_begin told knows s items h state objects_are marks_are are = (
+    sifts_begin E word_of value at objects marked (IsLink word_of objects links marked) (IsLinkAt word_of objects links marked) s items h state objects_are marks_are (links_each the.target_of told links items are)
+        (λ object word here off. links_all the.target_of told links items are object word here (not_told marked IsTarget told knows object (word, here) off)),
+    known_false marked IsTarget told object_of knows items
+        (each_as (λ (i : Item). get links i.word ≡ Some i.object) (λ (i : Item). IsTarget i.object) (λ i here. (i.word, here)) items (links_each the.target_of told links items are)) (links_known the.target_of told links items are),
+  )
 
 -- ---- words of dead links are cleared
 
@@ -107,15 +124,24 @@ module _ (E : Type 0) (word_of : ℕ → Option ℕ) (value : Map Object → ℕ
       by true = p.state
       by false = ap (λ (t : State). without t item.word) p.state ∙ goes p.now item.word item.object p.left_are.0
 
-  pub holds_begin : (s : State) (items : List Item) (h : Graph) → s ≡ at links → h.objects ≡ objects → h.marked ≡ marked → AreLinks links items → Holds s items h
-  holds_begin s items h state objects_are marks_are are = record {
-    now = links;
-    state = state;
-    objects_are = objects_are;
-    marks_are = marks_are;
-    left_are = links_each links items are;
-    are = holding_begins word_of objects links marked items (links_all links items are);
-  }
+  abbrev is_lying : ℕ → Bool
+  is_lying n = is_held word_of objects marked n
+
+  pub holds_begin : (told : List (ℕ × ℕ)) → Knows is_lying (λ n. IsTrue (contains_key links n)) told → (s : State) (items : List Item) (h : Graph) → s ≡ at links → h.objects ≡ objects → h.marked ≡ marked → AreLinks the.word_of told links items
+      → Holds s items h × Each (IsFalseOf is_lying word_in) items
+  holds_begin told knows s items h state objects_are marks_are are = (
+    record {
+      now = links;
+      state = state;
+      objects_are = objects_are;
+      marks_are = marks_are;
+      left_are = links_each the.word_of told links items are;
+      are = holding_begins word_of objects links marked items
+          (λ object word here off. links_all the.word_of told links items are object word here (not_told is_lying (λ n. IsTrue (contains_key links n)) told knows word (ap is_some here) off));
+    },
+    known_false is_lying (λ n. IsTrue (contains_key links n)) told word_in knows items
+        (each_as (λ (i : Item). get links i.word ≡ Some i.object) (λ (i : Item). IsTrue (contains_key links i.word)) (λ i here. ap is_some here) items (links_each the.word_of told links items are)) (links_known the.word_of told links items are),
+  )
 
   pub holds_all : (s : State) (h : Graph) → Holds s [] h → (s ≡ at (with_holders word_of objects links marked)) × (h.objects ≡ objects) × (h.marked ≡ marked)
   holds_all s h p = (p.state ∙ ap at (held_all word_of objects links marked p.now p.are), p.objects_are, p.marks_are)

@@ -1,58 +1,13 @@
 -- The places of a region, and the bits of words for them.
 use Rattle.std.proofs.Common.{◌≡◌, ◌≢◌, ℕ, min, zero, suc, ◌+◌, ◌*◌, ◌%◌, ◌^◌, ◌<◌, ◌≤◌, Bool, true, false, cond, not, ◌&&◌, List, [], ◌∷◌, filter, nat_eq, refl, sym, ap, subst, ◌∙◌, ⊎_elim, arith, w64, bit_and, bit_or}
-use Rattle.std.proofs.lemmas.Bool.{cases_eq, cond-true, cond-false}
-use Rattle.std.proofs.lemmas.Nat.Bits.{bit_at_and, bit_at_or, bit_at-pow_same, bit_at-pow_other, bit_at_clear_same, bit_at_clear_other, bit_at-trailing_zeros, bit_at-lt}
+use Rattle.std.proofs.lemmas.Bool.{ne_eqb}
+use Rattle.std.proofs.lemmas.Nat.{pow_pos}
+use Rattle.std.proofs.lemmas.Nat.Bits.{and_pow, bit_at_and, bit_at_or, bit_at-pow_same, bit_at-pow_other, bit_at_clear_same, bit_at_clear_other, bit_at-lt}
 use Rattle.std.proofs.Math.Pow.{pow-lt}
-use Rattle.std.specs.Int.{bit_at, bit_not, trailing_zeros}
-use Rattle.std.specs.List.{range_with_len}
+use Rattle.std.specs.Int.{bit_at, bit_not}
 use Rattle.fz_model.specs.Bits.{has_bit}
 use Rattle.fz_model.proofs.Bits.{bit_on, bit_off, on_bit, off_bit, no_bits, not_bit}
-use Rattle.fz_machine.specs.Regions.{place_in, region_of, places}
-
--- ---- tests of the numbers of a range
-
-same_in : (p q : ℕ → Bool) (a n : ℕ) → ((i : ℕ) → a ≤ i → i < a + n → q i ≡ p i) → filter p (range_with_len a n) ≡ filter q (range_with_len a n)
-same_in p q a zero same = refl
-same_in p q a (suc n) same =
-    let here = same a (omega arith) (omega arith) in
-    let rest = same_in p q (a + 1) n (λ i low high. same i (omega (arith, low)) (omega (arith, high))) in
-    ap (λ xs. cond (p a) (a ∷ xs) xs) rest ∙ ap (λ b. cond b (a ∷ filter q (range_with_len (a + 1) n)) (filter q (range_with_len (a + 1) n))) (sym here)
-
-none_in : (p : ℕ → Bool) (a n : ℕ) → ((i : ℕ) → a ≤ i → i < a + n → p i ≡ false) → filter p (range_with_len a n) ≡ []
-none_in p a zero none = refl
-none_in p a (suc n) none =
-    ap (λ b. cond b (a ∷ filter p (range_with_len (a + 1) n)) (filter p (range_with_len (a + 1) n))) (none a (omega arith) (omega arith))
-    ∙ none_in p (a + 1) n (λ i low high. none i (omega (arith, low)) (omega (arith, high)))
-
-both_tests : (p q : ℕ → Bool) (xs : List ℕ) → filter (λ i. p i && q i) xs ≡ filter q (filter p xs)
-both_tests p q [] = refl
-both_tests p q (x ∷ xs) = by (p x) (both_tests p q xs)
-  where
-    by : (b : Bool) → filter (λ i. p i && q i) xs ≡ filter q (filter p xs) → cond (b && q x) (x ∷ filter (λ i. p i && q i) xs) (filter (λ i. p i && q i) xs) ≡ filter q (cond b (x ∷ filter p xs) (filter p xs))
-    by true rest = ap (λ ys. cond (q x) (x ∷ ys) ys) rest
-    by false rest = rest
-
--- the first that passes goes, where another test passes all others
-first_out : (p q : ℕ → Bool) (t a n : ℕ) → a ≤ t → t < a + n → ((i : ℕ) → i < t → p i ≡ false) → p t ≡ true → q t ≡ false → ((i : ℕ) → i < a + n → i ≢ t → q i ≡ p i)
-    → filter p (range_with_len a n) ≡ t ∷ filter q (range_with_len a n)
-first_out p q t a zero low high none on off same = absurd (omega (arith, low, high))
-first_out p q t a (suc n) low high none on off same =
-    ⊎_elim
-    (λ (is : a ≡ t).
-    let rest = same_in p q (a + 1) n (λ i lo hi. same i (omega (arith, hi)) (λ e. omega (arith, e, is, lo))) in
-    let head : p a ≡ true = ap p is ∙ on in
-    let gone : q a ≡ false = ap q is ∙ off in
-    cond-true (p a) (a ∷ filter p (range_with_len (a + 1) n)) (filter p (range_with_len (a + 1) n)) head
-    ∙ ap (λ x. x ∷ filter p (range_with_len (a + 1) n)) is ∙ ap (λ xs. t ∷ xs) rest
-    ∙ ap (λ xs. t ∷ xs) (sym (cond-false (q a) (a ∷ filter q (range_with_len (a + 1) n)) (filter q (range_with_len (a + 1) n)) gone)))
-    (λ (ne : a ≢ t).
-    let before : a < t = omega (arith, low, ne) in
-    let head : p a ≡ false = none a before in
-    let gone : q a ≡ false = same a (omega arith) ne ∙ head in
-    cond-false (p a) (a ∷ filter p (range_with_len (a + 1) n)) (filter p (range_with_len (a + 1) n)) head
-    ∙ first_out p q t (a + 1) n (omega (arith, before)) (omega (arith, high)) none on off (λ i hi. same i (omega (arith, hi)))
-    ∙ ap (λ xs. t ∷ xs) (sym (cond-false (q a) (a ∷ filter q (range_with_len (a + 1) n)) (filter q (range_with_len (a + 1) n)) gone)))
-    (cases_eq a t)
+use Rattle.fz_machine.specs.Regions.{place_in, region_of}
 
 -- ---- one bit
 
@@ -108,31 +63,18 @@ in_both a b i = by (has_bit a i) refl (has_bit b i) refl
     by true on false off = let none = bit_off b i off in off_bit _ i (omega (arith, least, none))
     by true on true too = let one = bit_on a i on in let other = bit_on b i too in on_bit _ i (omega (arith, least, one, other))
 
--- ---- the places of bits
+-- whether a word has the bit of a place
+pub tested : (n place : ℕ) → not (nat_eq (bit_and n (2 ^ place)) 0) ≡ has_bit n place
+tested n place = by (has_bit n place) refl
+  where
+    some : 0 < 2 ^ place
+    some = pow_pos place
 
-pub no_places : (n : ℕ) → n ≡ 0 → places n ≡ []
-unfolding places
-no_places n none = none_in (has_bit n) 0 64 (λ i low high. ap (λ k. has_bit k i) none ∙ no_bits i)
-
--- the lowest bit goes, and its place with it
-pub lowest_out : (n t : ℕ) → 0 < n → n < 2 ^ 64 → t ≡ trailing_zeros w64 n → (t < 64) × (has_bit n t ≡ true) × (places n ≡ t ∷ places (bit_and n (bit_not w64 (2 ^ t))))
-unfolding places
-lowest_out n t some fits is =
-    let low = bit_at-trailing_zeros w64 n some fits in
-    let within : t < 64 = subst (λ k. k < 64) (sym is) low.0 in
-    let on : has_bit n t ≡ true = on_bit n t (ap (bit_at n) is ∙ low.1) in (
-      within,
-      on,
-      first_out (has_bit n) (has_bit (bit_and n (bit_not w64 (2 ^ t)))) t 0 64 (omega arith) (omega (arith, within))
-          (λ i lt. off_bit n i (low.2 i (subst (λ k. i < k) is lt))) on (cleared_here n t within) (λ i hi ne. cleared_there n t i within (omega (arith, hi)) ne),
-    )
-
--- the places of the bits of one word that aren't in another
-pub places_without : (a b : ℕ) → b < 2 ^ 64 → places (bit_and a (bit_not w64 b)) ≡ filter (λ i. not (has_bit b i)) (places a)
-unfolding places
-places_without a b fits =
-    sym (same_in (λ i. has_bit a i && not (has_bit b i)) (has_bit (bit_and a (bit_not w64 b))) 0 64 (λ i low high. without a b i fits (omega (arith, high))))
-    ∙ both_tests (has_bit a) (λ i. not (has_bit b i)) (range_with_len 0 64)
+    by : (v : Bool) → has_bit n place ≡ v → not (nat_eq (bit_and n (2 ^ place)) 0) ≡ v
+    by true on =
+        let one : bit_at n place * 2 ^ place ≡ 2 ^ place = ap (λ k. k * 2 ^ place) (bit_on n place on) ∙ (let same : 1 * 2 ^ place ≡ 2 ^ place = omega arith in same) in
+        ap not (ne_eqb (bit_and n (2 ^ place)) 0 (λ none. let more = some in let is = sym one ∙ sym (and_pow n place) ∙ none in omega (arith, more, is)))
+    by false off = ap (λ k. not (nat_eq k 0)) (and_pow n place ∙ ap (λ k. k * 2 ^ place) (bit_off n place off) ∙ (let none : 0 * 2 ^ place ≡ 0 = omega arith in none))
 
 -- ---- places and objects
 

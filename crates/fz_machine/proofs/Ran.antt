@@ -1,5 +1,6 @@
 -- A run keeps what holds in its phases, and ends with the model's pass.
-use Rattle.std.proofs.Common.{ℕ, ◌≡◌, ◌∷◌, ◌∙◌, [], ◌<◌, Bool, true, false, arith, cond, List, Option, Some, None, refl, sym, ap, subst, is_some, length, IsTrue}
+use Rattle.std.proofs.Common.{ℕ, ◌≡◌, ◌∷◌, ◌++◌, ◌∙◌, [], ◌<◌, Bool, true, false, arith, cond, List, Option, Some, None, refl, sym, ap, subst, is_some, length, zip, IsTrue}
+use Rattle.std.proofs.lemmas.Option.{none-some, same_Some}
 use Rattle.std.specs.FinMap.{retain_keys}
 use Rattle.std.specs.FinSet.{contains}
 use Rattle.fz_model.specs.State.{Map, Object}
@@ -20,117 +21,234 @@ use Rattle.fz_finalizers.specs.States.{State}
 use Rattle.fz_machine.specs.declared.item.Item.{Item}
 use Rattle.fz_machine.specs.declared.phase.Moment.TheVariants.{First}
 use Rattle.fz_machine.specs.declared.phase.Phase.{Phase}
-use Rattle.fz_machine.specs.declared.phase.Phase.TheVariants.{Keys}
+use Rattle.fz_machine.specs.declared.phase.Phase.TheVariants.{Keys, Regions}
+use Rattle.fz_machine.specs.declared.phase.Sweep.{Sweep}
+use Rattle.fz_machine.specs.declared.phase.Sweep.TheVariants as sweeps
 use Rattle.fz_machine.specs.declared.question.Ask.{Ask}
-use Rattle.fz_machine.specs.Going.{going}
-use Rattle.fz_machine.specs.Graph.{AreOldMarked, Graph, IsHonest, MayBegin, graph_of}
+use Rattle.fz_machine.specs.Graph.{AreHonestWords, AreOldMarked, Graph, IsHonest, MayBegin, graph_of}
 use Rattle.fz_machine.specs.Items.{AreEphemerons}
 use Rattle.fz_machine.specs.Machines as machines
-use Rattle.fz_machine.specs.Machines.{IsBegunFrom, Machine, TellsIn, Works}
+use Rattle.fz_machine.specs.Machines.{Answers, Heard, IsBegunFrom, Machine, TellsIn, Words, Works, heard_by}
 use Rattle.fz_machine.specs.Off.{PutOff, looks_again, put_off}
-use Rattle.fz_machine.specs.Phases.{Scope, after, aside_in, asks, keeps, next_phase, subject}
-use Rattle.fz_machine.specs.Runs.{AreHonest, Begun, Goes, MakesPass, MakesPlainPass, Meanwhile, Runs, RunsPass, RunsPlainPass, RunsYoungPass, RunsYoungPlainPass, Told}
-use Rattle.fz_machine.specs.Steps.{Asks, Begins, Ends, Going, GoesOn, Turns, skip, skipped, steps}
+use Rattle.fz_machine.specs.Phases.{Lists, after, aside_in, ask_of, asks, given, is_known, keeps, next_phase, off_in, subject, sweep_ask, swept}
+use Rattle.fz_machine.specs.Regions.{IsOfSweep}
+use Rattle.fz_machine.specs.Runs.{AreHonest, Begun, Goes, IsTrueOf, MakesPass, MakesPlainPass, Meanwhile, Runs, RunsPass, RunsPlainPass, RunsYoungPass, RunsYoungPlainPass, Told}
+use Rattle.fz_machine.specs.Steps.{Asks, Begins, Ends, Going, GoesOn, Sweeps, Turns, skip, skipped, step, stepped, steps}
 use Rattle.fz_machine.proofs.Begun.{HasBegun}
 use Rattle.fz_machine.proofs.Cleaning.{after_due}
-use Rattle.fz_machine.proofs.Opening.{IsAfter, IsAtEnd, IsIn, IsWhere, begin_found, keep, opens, told, turn}
+use Rattle.fz_machine.proofs.Honest.{honest_more}
+use Rattle.fz_machine.proofs.Opening.{IsAfter, IsAtEnd, IsIn, begin_found, keep, known_so, opens, told, turn}
 use Rattle.fz_machine.proofs.Phased as phased
 use Rattle.fz_machine.proofs.Phasing.{kept_on}
 use Rattle.fz_machine.proofs.Rounds.{begin_behind}
+use Rattle.fz_machine.proofs.Stepping.{skip_none, steps_none}
 use Rattle.fz_machine.proofs.Turning as turning
-use Rattle.fz_machine.proofs.Working.{WorksAfter, apart, goes_apart, goes_works, going_apart, steps_apart, work_apart, worked_on}
+use Rattle.fz_machine.proofs.Working.{WorksAfter, apart, goes_apart, goes_works, going_apart, heard_apart, work_apart, worked_on}
+
+-- ---- what was told stays but for a sweep
+
+stepped_told : (phase : Phase) (answer : Bool) (g : Going) (xs : List Item) → (stepped phase answer g xs).told ≡ g.told
+stepped_told phase answer g [] = refl
+stepped_told phase answer g (item ∷ left) = refl
+
+steps_told : (phase : Phase) (answers : List Bool) (g : Going) → (steps phase answers g).told ≡ g.told
+steps_told phase [] g = refl
+steps_told phase (answer ∷ answers) g = steps_told phase answers (step phase answer g) ∙ stepped_told phase answer g g.left
+
+skipped_told : (phase : Phase) (xs : List Item) (g : Going) → (skipped phase xs g).told ≡ g.told
+skipped_told phase [] g = refl
+skipped_told phase (item ∷ left) g = by (is_some (asks phase item)) (skipped_told phase left (step phase false g) ∙ stepped_told phase false g g.left)
+  where
+    by : (b : Bool) → (skipped phase left (step phase false g)).told ≡ g.told → (cond b g (skipped phase left (step phase false g))).told ≡ g.told
+    by true rest = refl
+    by false rest = rest
 
 module _ (E : Type 0) (word_of : ℕ → Option ℕ) (value : Map Object → ℕ → Option ℕ) (b : State) (before : Graph) (begin : HasBegun word_of b before) where
-  abbrev IsOn : Phase → Going → Graph → Type 0
-  IsOn phase g h = IsIn E word_of value b before phase g.finalizers g.kept g.left g.aside g.off h
+  abbrev Holds : Phase → Going → Graph → Type 0
+  Holds phase g h = IsIn E word_of value b before phase g.finalizers g.kept g.left g.aside g.off h
 
-  abbrev at : State → List Item → List Item → List Item → PutOff → Going
-  at s kept left aside off = record { finalizers = s; kept = kept; left = left; aside = aside; off = off }
+  -- words that are true of the items of a sweep
+  abbrev AreTrue : Sweep → State → Graph → List (ℕ × ℕ) → Type 0
+  AreTrue sweep s h told = AreHonestWords word_of (sweep_ask sweep) (IsOfSweep sweep s) h told
+
+  -- by true words the phase behind a sweep lists what it should
+  abbrev ListsRightly : Sweep → State → List Item → List Item → PutOff → Graph → Type 0
+  ListsRightly sweep s kept aside off h =
+      (told : List (ℕ × ℕ)) → AreTrue sweep s h told → (items : List Item) → Lists (swept sweep) begin.from told s (given (swept sweep) kept aside off) items
+      → IsIn E word_of value b before (swept sweep) s [] items (aside_in (swept sweep) kept aside) (off_in (swept sweep) off) h
+
+  -- in a sweep no item is left, and what was told is true; in other phases nothing is told
+  abbrev pub IsOn : Phase → Going → Graph → Type 0
+  IsOn (Regions sweep) g h = AreTrue sweep g.finalizers h g.told × (g.left ≡ []) × ListsRightly sweep g.finalizers g.kept g.aside g.off h
+  IsOn phase g h = (g.told ≡ []) × Holds phase g h
+
+  -- where it asks, or at the end
+  abbrev pub IsWhere : Option Phase → Going → Graph → Type 0
+  IsWhere None g h = IsAtEnd E word_of value b before g.finalizers h
+  IsWhere (Some phase) g h = IsOn phase g h
+
+  abbrev at : State → List Item → List Item → List Item → PutOff → List (ℕ × ℕ) → Going
+  at s kept left aside off told = record { finalizers = s; kept = kept; left = left; aside = aside; off = off; told = told }
+
+  -- ---- what is heard
 
   -- answers about the first items
-  steps_keep : (phase : Phase) (answers : List Bool) (s : State) (kept left aside : List Item) (off : PutOff) (h new : Graph) → IsIn E word_of value b before phase s kept left aside off h → AreHonest E word_of value phase answers left h new
-      → IsOn phase (steps phase answers (at s kept left aside off)) new
-  steps_keep phase [] s kept left aside off h new p same = subst (λ (x : Graph). IsIn E word_of value b before phase s kept left aside off x) (sym same) p
-  steps_keep phase (answer ∷ answers) s kept [] aside off h new p honest = absurd honest
-  steps_keep phase (answer ∷ answers) s kept (item ∷ left) aside off h new p (between, is, rest) =
-      steps_keep phase answers (after phase item answer s) (kept_on (keeps phase item answer) kept item) left aside (put_off phase item answer off) between new
+  steps_keep : (phase : Phase) (answers : List Bool) (s : State) (kept left aside : List Item) (off : PutOff) (told : List (ℕ × ℕ)) (h new : Graph) → IsIn E word_of value b before phase s kept left aside off h → AreHonest E word_of value phase answers left h new
+      → Holds phase (steps phase answers (at s kept left aside off told)) new
+  steps_keep phase [] s kept left aside off told h new p same = subst (λ (x : Graph). IsIn E word_of value b before phase s kept left aside off x) (sym same) p
+  steps_keep phase (answer ∷ answers) s kept [] aside off told h new p honest = absurd honest
+  steps_keep phase (answer ∷ answers) s kept (item ∷ left) aside off told h new p (between, is, rest) =
+      steps_keep phase answers (after phase item answer s) (kept_on (keeps phase item answer) kept item) left aside (put_off phase item answer off) told between new
       (keep E word_of value b before begin phase s kept left aside off item h between p answer is) rest
 
-  -- past items of which nothing is asked
-  skips_keep : (phase : Phase) (left : List Item) (s : State) (kept aside : List Item) (off : PutOff) (h : Graph) → IsIn E word_of value b before phase s kept left aside off h → IsOn phase (skipped phase left (at s kept left aside off)) h
-  skips_keep phase [] s kept aside off h p = p
-  skips_keep phase (item ∷ left) s kept aside off h p = by (asks phase item) refl (skips_keep phase left (after phase item false s) (kept_on (keeps phase item false) kept item) aside (put_off phase item false off) h)
+  -- about no items there are no answers
+  no_answers : (phase : Phase) (answers : List Bool) (left : List Item) (h new : Graph) → left ≡ [] → AreHonest E word_of value phase answers left h new → new ≡ h
+  no_answers phase [] left h new none honest = honest
+  no_answers phase (answer ∷ answers) [] h new none honest = absurd honest
+  no_answers phase (answer ∷ answers) (item ∷ left) h new none honest = absurd (omega (arith, ap length none))
+
+  abbrev here_apart : Machine → Going
+  here_apart m = going_apart b.taken b.held (machines.going_of m)
+
+  heard_on : (m : Machine) (heard : Heard) (phase : Phase) (h new : Graph) → IsOn phase (here_apart m) h → IsTrueOf E word_of value m heard phase h new → IsOn phase (heard_by phase m.regions heard (here_apart m)) new
+  heard_on m (Answers answers) (Regions sweep) h new p honest =
+      subst (λ (k : Going). IsOn (Regions sweep) k new) (sym (steps_none (Regions sweep) answers (here_apart m) p.1)) (subst (λ (x : Graph). IsOn (Regions sweep) (here_apart m) x) (sym (no_answers (Regions sweep) answers m.walk.left h new p.1 honest)) p)
+  heard_on m (Words words) (Regions sweep) h new p honest =
+      subst (λ (x : Graph). IsOn (Regions sweep) (record (here_apart m) { told = m.told ++ zip m.regions words }) x) (sym honest.1)
+      (honest_more word_of (sweep_ask sweep) (IsOfSweep sweep (apart b.taken b.held m.finalizers.state)) h m.told (zip m.regions words) p.0 (words_apart sweep honest.0), p.1, p.2)
+    where
+      words_apart : (sweep : Sweep) → AreTrue sweep m.finalizers.state h (zip m.regions words) → AreTrue sweep (apart b.taken b.held m.finalizers.state) h (zip m.regions words)
+      words_apart sweeps.ShortCleanups true_words = true_words
+      words_apart sweeps.ShortTargets true_words = true_words
+      words_apart sweeps.Objects true_words = true_words
+      words_apart sweeps.LongTargets true_words = true_words
+      words_apart sweeps.ShortHolders true_words = true_words
+      words_apart sweeps.LongHolders true_words = true_words
+      words_apart sweeps.LongCleanups true_words = true_words
+  heard_on m (Answers answers) phase h new p honest =
+      (steps_told phase answers (here_apart m) ∙ p.0, steps_keep phase answers (apart b.taken b.held m.finalizers.state) m.walk.kept m.walk.left m.walk.aside m.walk.off m.told h new p.1 honest)
+  heard_on m (Words words) phase h new p same = subst (λ (x : Graph). IsOn phase (here_apart m) x) (sym same) p
+
+  -- ---- past items of which nothing is asked
+
+  -- what would be answered about them is false
+  unasked : (phase : Phase) (s : State) (kept left aside : List Item) (off : PutOff) (item : Item) (h : Graph) → IsIn E word_of value b before phase s kept (item ∷ left) aside off h → asks phase item ≡ None
+      → IsHonest E word_of value (ask_of phase item) (subject phase item) h false h
+  unasked phase s kept left aside off item h p none = by (is_known phase item) refl none
+    where
+      by : (on : Bool) → is_known phase item ≡ on → cond on None (ask_of phase item) ≡ None → IsHonest E word_of value (ask_of phase item) (subject phase item) h false h
+      by true on is = known_so E word_of value b before begin phase s kept left aside off item h p on
+      by false un is = subst (λ o. IsHonest E word_of value o (subject phase item) h false h) (sym is) refl
+
+  skips_keep : (phase : Phase) (left : List Item) (s : State) (kept aside : List Item) (off : PutOff) (told : List (ℕ × ℕ)) (h : Graph) → IsIn E word_of value b before phase s kept left aside off h → Holds phase (skipped phase left (at s kept left aside off told)) h
+  skips_keep phase [] s kept aside off told h p = p
+  skips_keep phase (item ∷ left) s kept aside off told h p = by (asks phase item) refl (skips_keep phase left (after phase item false s) (kept_on (keeps phase item false) kept item) aside (put_off phase item false off) told h)
     where
       next : Going
-      next = at (after phase item false s) (kept_on (keeps phase item false) kept item) left aside (put_off phase item false off)
+      next = at (after phase item false s) (kept_on (keeps phase item false) kept item) left aside (put_off phase item false off) told
 
-      by : (o : Option Ask) → asks phase item ≡ o → (IsOn phase next h → IsOn phase (skipped phase left next) h) → IsOn phase (cond (is_some o) (at s kept (item ∷ left) aside off) (skipped phase left next)) h
-      by None none rest = rest (keep E word_of value b before begin phase s kept left aside off item h h p false (subst (λ o. IsHonest E word_of value o (subject phase item) h false h) (sym none) refl))
+      by : (o : Option Ask) → asks phase item ≡ o → (Holds phase next h → Holds phase (skipped phase left next) h) → Holds phase (cond (is_some o) (at s kept (item ∷ left) aside off told) (skipped phase left next)) h
+      by None none rest = rest (keep E word_of value b before begin phase s kept left aside off item h h p false (unasked phase s kept left aside off item h p none))
       by (Some ask) some rest = p
 
+  skip_on : (phase : Phase) (g : Going) (h : Graph) → IsOn phase g h → IsOn phase (skip phase g) h
+  skip_on (Regions sweep) g h p = subst (λ (k : Going). IsOn (Regions sweep) k h) (sym (skip_none (Regions sweep) g p.1)) p
+  skip_on phase g h p = (skipped_told phase g.left g ∙ p.0, skips_keep phase g.left g.finalizers g.kept g.aside g.off g.told h p.1)
+
+  -- ---- the next phase
+
   -- no item is left
-  none_left : (phase : Phase) (g : Going) (h : Graph) → g.left ≡ [] → IsOn phase g h → IsAfter E word_of value b before begin.scope (next_phase phase (looks_again g.off)) g.finalizers g.kept g.aside g.off h
+  none_left : (phase : Phase) (g : Going) (h : Graph) → g.left ≡ [] → Holds phase g h → IsAfter E word_of value b before begin.from (next_phase phase (looks_again g.off)) g.finalizers g.kept g.aside g.off h
   none_left phase g h none p =
       turn E word_of value b before begin phase g.finalizers g.kept g.aside g.off h (subst (λ (xs : List Item). IsIn E word_of value b before phase g.finalizers g.kept xs g.aside g.off h) none p)
 
-  begins_on : (phase : Phase) (g k : Going) (h : Graph) → IsAfter E word_of value b before begin.scope (Some phase) g.finalizers g.kept g.aside g.off h → Begins begin.scope phase g k → IsOn phase k h
-  begins_on phase g k h after_it begins =
-      subst (λ (s : State). IsIn E word_of value b before phase s k.kept k.left k.aside k.off h) (sym begins.same)
-      (subst (λ (xs : List Item). IsIn E word_of value b before phase g.finalizers xs k.left k.aside k.off h) (sym begins.none)
-      (subst (λ (xs : List Item). IsIn E word_of value b before phase g.finalizers [] k.left xs k.off h) (sym begins.aside)
-      (subst (λ (off : PutOff). IsIn E word_of value b before phase g.finalizers [] k.left (aside_in phase g.kept g.aside) off h) (sym begins.off) (after_it k.left begins.lists))))
+  module _ (phase : Phase) (g k : Going) (h : Graph) (begins : Begins begin.from phase g k) where
+    -- what it lists, it lists of what the phase before has left
+    listed_on : IsIn E word_of value b before phase g.finalizers [] k.left (aside_in phase g.kept g.aside) (off_in phase g.off) h → Holds phase k h
+    listed_on p =
+        subst (λ (s : State). IsIn E word_of value b before phase s k.kept k.left k.aside k.off h) (sym begins.same)
+        (subst (λ (xs : List Item). IsIn E word_of value b before phase g.finalizers xs k.left k.aside k.off h) (sym begins.none)
+        (subst (λ (xs : List Item). IsIn E word_of value b before phase g.finalizers [] k.left xs k.off h) (sym begins.aside)
+        (subst (λ (off : PutOff). IsIn E word_of value b before phase g.finalizers [] k.left (aside_in phase g.kept g.aside) off h) (sym begins.off) p)))
 
-  goes_keep : (phase : Phase) (g : Going) (last : Option Phase) (k : Going) (h : Graph) → GoesOn begin.scope phase g last k → IsOn phase g h → IsWhere E word_of value b before last k.finalizers k.kept k.left k.aside k.off h
-  goes_keep phase g last k h (Asks item left some) p = skips_keep phase g.left g.finalizers g.kept g.aside g.off h p
-  goes_keep phase g last k h (Turns {next = next} {h = m} none turns begins rest) p =
-      goes_keep next m last k h rest
-      (begins_on next (skip phase g) m h
-      (subst (λ o. IsAfter E word_of value b before begin.scope o (skip phase g).finalizers (skip phase g).kept (skip phase g).aside (skip phase g).off h) turns (none_left phase (skip phase g) h none (skips_keep phase g.left g.finalizers g.kept g.aside g.off h p))) begins)
-  goes_keep phase g last k h (Ends none turns) p =
-      subst (λ o. IsAfter E word_of value b before begin.scope o (skip phase g).finalizers (skip phase g).kept (skip phase g).aside (skip phase g).off h) turns (none_left phase (skip phase g) h none (skips_keep phase g.left g.finalizers g.kept g.aside g.off h p))
+  begins_on : (phase : Phase) (g k : Going) (h : Graph) → g.told ≡ [] → IsAfter E word_of value b before begin.from (Some phase) g.finalizers g.kept g.aside g.off h → Begins begin.from phase g k → IsOn phase k h
+  begins_on (Regions sweep) g k h none after_it begins = (
+    subst (λ (told : List (ℕ × ℕ)). AreTrue sweep k.finalizers h told) (sym begins.told) tt,
+    begins.lists,
+    subst (λ (s : State). ListsRightly sweep s k.kept k.aside k.off h) (sym begins.same)
+        (subst (λ (xs : List Item). ListsRightly sweep g.finalizers xs k.aside k.off h) (sym begins.none)
+        (subst (λ (xs : List Item). ListsRightly sweep g.finalizers [] xs k.off h) (sym begins.aside)
+        (subst (λ (off : PutOff). ListsRightly sweep g.finalizers [] (aside_in (Regions sweep) g.kept g.aside) off h) (sym begins.off) after_it))),
+  )
+  begins_on phase g k h none after_it begins = (begins.told, listed_on phase g k h begins (after_it g.told none k.left begins.lists))
+
+  -- behind a sweep
+  swept_on : (sweep : Sweep) (k : Going) (h : Graph) → k.told ≡ [] → Holds (swept sweep) k h → IsOn (swept sweep) k h
+  swept_on sweeps.ShortCleanups k h none p = (none, p)
+  swept_on sweeps.ShortTargets k h none p = (none, p)
+  swept_on sweeps.Objects k h none p = (none, p)
+  swept_on sweeps.LongTargets k h none p = (none, p)
+  swept_on sweeps.ShortHolders k h none p = (none, p)
+  swept_on sweeps.LongHolders k h none p = (none, p)
+  swept_on sweeps.LongCleanups k h none p = (none, p)
+
+  turn_on : (phase next : Phase) (g k : Going) (h : Graph) → g.left ≡ [] → next_phase phase (looks_again g.off) ≡ Some next → IsOn phase g h → Begins begin.from next g k → IsOn next k h
+  turn_on (Regions sweep) next g k h none turns p begins =
+      let is : swept sweep ≡ next = same_Some (swept sweep) next turns in
+      let from_here : Begins begin.from (swept sweep) g k = subst (λ (o : Phase). Begins begin.from o g k) (sym is) begins in
+      subst (λ (o : Phase). IsOn o k h) is (swept_on sweep k h from_here.told (listed_on (swept sweep) g k h from_here (p.2 g.told p.0 k.left from_here.lists)))
+  turn_on phase next g k h none turns p begins =
+      begins_on next g k h p.0 (subst (λ o. IsAfter E word_of value b before begin.from o g.finalizers g.kept g.aside g.off h) turns (none_left phase g h none p.1)) begins
+
+  end_on : (phase : Phase) (g : Going) (h : Graph) → g.left ≡ [] → next_phase phase (looks_again g.off) ≡ None → IsOn phase g h → IsAtEnd E word_of value b before g.finalizers h
+  end_on (Regions sweep) g h none turns p = absurd (none-some (swept sweep) (sym turns))
+  end_on phase g h none turns p = subst (λ o. IsAfter E word_of value b before begin.from o g.finalizers g.kept g.aside g.off h) turns (none_left phase g h none p.1)
+
+  goes_keep : (phase : Phase) (g : Going) (last : Option Phase) (k : Going) (h : Graph) → GoesOn begin.from phase g last k → IsOn phase g h → IsWhere last k h
+  goes_keep phase g last k h (Asks item left some) p = skip_on phase g h p
+  goes_keep phase g last k h Sweeps p = p
+  goes_keep phase g last k h (Turns {next = next} {h = m} none turns begins rest) p = goes_keep next m last k h rest (turn_on phase next (skip phase g) m h none turns (skip_on phase g h p) begins)
+  goes_keep phase g last k h (Ends none turns) p = end_on phase (skip phase g) h none turns (skip_on phase g h p)
 
   -- the host tells a key
-  told_on : (key : ℕ) (phase : Option Phase) (s : State) (kept left aside : List Item) (was now : PutOff) (h : Graph) → TellsIn phase key was now → IsWhere E word_of value b before phase s kept left aside was h → IsWhere E word_of value b before phase s kept left aside now h
-  told_on key None s kept left aside was now h tells p = p
-  told_on key (Some phase) s kept left aside was now h tells p = told E word_of value b before begin key phase s kept left aside was now h tells p
+  told_on : (key : ℕ) (phase : Option Phase) (g : Going) (now : PutOff) (h : Graph) → TellsIn phase key g.off now → IsWhere phase g h → IsWhere phase (record g { off = now }) h
+  told_on key None g now h tells p = p
+  told_on key (Some (Regions sweep)) g now h tells p = subst (λ (off : PutOff). IsOn (Regions sweep) (record g { off = off }) h) (sym tells) p
+  told_on key (Some phase) g now h tells p = (p.0, told E word_of value b before begin key phase g.finalizers g.kept g.left g.aside g.off now h tells p.1)
+
+  -- ---- a run
 
   -- with what was taken and held at the begin
-  abbrev passed : Machine → State
-  passed m = apart b.taken b.held m.finalizers.state
-
   abbrev IsAt : Machine → Graph → Type 0
-  IsAt m h = IsWhere E word_of value b before m.phase (passed m) m.walk.kept m.walk.left m.walk.aside m.walk.off h
+  IsAt m h = IsWhere m.phase (here_apart m) h
 
   -- it looks at the same registrations and cleanups throughout
-  scope_stays : (begun m : Machine) (h : Graph) → Runs E word_of value begun before m h → machines.scope m ≡ machines.scope begun
-  scope_stays begun m h Begun = refl
-  scope_stays begun m h (Goes {m = old} {g = g} answers goes runs honest) = (λ i. record { registrations = cond (goes.noted i) 0 (goes.from i); cleanups = goes.from i }) ∙ scope_stays begun old g runs
-  scope_stays begun m h (Meanwhile {m = old} worked runs) = ap machines.scope worked.keeps ∙ scope_stays begun old h runs
-  scope_stays begun m h (Told {m = old} key tells runs) = ap machines.scope tells.same ∙ scope_stays begun old h runs
+  from_stays : (begun m : Machine) (h : Graph) → Runs E word_of value begun before m h → m.from ≡ begun.from
+  from_stays begun m h Begun = refl
+  from_stays begun m h (Goes {m = old} {g = g} heard goes runs honest) = goes.from ∙ from_stays begun old g runs
+  from_stays begun m h (Meanwhile {m = old} worked runs) = ap (λ (k : Machine). k.from) worked.keeps ∙ from_stays begun old h runs
+  from_stays begun m h (Told {m = old} key tells runs) = ap (λ (k : Machine). k.from) tells.same ∙ from_stays begun old h runs
 
-  ran : (begun m : Machine) (h : Graph) → machines.scope begun ≡ begin.scope → IsAt begun before → Runs E word_of value begun before m h → IsAt m h
+  ran : (begun m : Machine) (h : Graph) → begun.from ≡ begin.from → IsAt begun before → Runs E word_of value begun before m h → IsAt m h
   ran begun m h same p Begun = p
-  ran begun m h same p (Goes {m = old} {g = g} answers goes runs honest) =
-      let was = subst (λ o. IsWhere E word_of value b before o (passed old) old.walk.kept old.walk.left old.walk.aside old.walk.off g) goes.was (ran begun old g same p runs) in
-      let from = going_apart b.taken b.held (going old.finalizers old.walk) in
-      let to = going_apart b.taken b.held (going m.finalizers m.walk) in
-      let on : GoesOn begin.scope goes.phase (steps goes.phase answers from) m.phase to =
-      subst (λ (sc : Scope). GoesOn sc goes.phase (steps goes.phase answers from) m.phase to) (scope_stays begun old g runs ∙ same)
-      (subst (λ (k : Going). GoesOn (machines.scope old) goes.phase k m.phase to) (sym (steps_apart b.taken b.held goes.phase answers (going old.finalizers old.walk)))
-      (goes_apart b.taken b.held goes.phase (steps goes.phase answers (going old.finalizers old.walk)) m.phase (going m.finalizers m.walk) goes.goes)) in
-      goes_keep goes.phase (steps goes.phase answers from) m.phase to h on (steps_keep goes.phase answers (passed old) old.walk.kept old.walk.left old.walk.aside old.walk.off g h was honest)
+  ran begun m h same p (Goes {m = old} {g = g} heard goes runs honest) =
+      let was = subst (λ o. IsWhere o (here_apart old) g) goes.was (ran begun old g same p runs) in
+      let on : GoesOn begin.from goes.phase (heard_by goes.phase old.regions heard (here_apart old)) m.phase (here_apart m) =
+      subst (λ n. GoesOn n goes.phase (heard_by goes.phase old.regions heard (here_apart old)) m.phase (here_apart m)) (from_stays begun old g runs ∙ same)
+      (subst (λ (k : Going). GoesOn old.from goes.phase k m.phase (here_apart m)) (sym (heard_apart b.taken b.held goes.phase old.regions heard (machines.going_of old)))
+      (goes_apart b.taken b.held goes.phase (heard_by goes.phase old.regions heard (machines.going_of old)) m.phase (machines.going_of m) goes.goes)) in
+      goes_keep goes.phase (heard_by goes.phase old.regions heard (here_apart old)) m.phase (here_apart m) h on (heard_on old heard goes.phase g h was honest)
   ran begun m h same p (Meanwhile {m = old} worked runs) =
-      subst (λ (k : Machine). IsWhere E word_of value b before k.phase (passed m) k.walk.kept k.walk.left k.walk.aside k.walk.off h) (sym worked.keeps)
-      (subst (λ (s : State). IsWhere E word_of value b before old.phase s old.walk.kept old.walk.left old.walk.aside old.walk.off h)
+      subst (λ (k : Machine). IsWhere k.phase (record (here_apart k) { finalizers = apart b.taken b.held m.finalizers.state }) h) (sym worked.keeps)
+      (subst (λ (s : State). IsWhere old.phase (record (here_apart old) { finalizers = s }) h)
       (sym (work_apart b.taken b.held old.finalizers.state m.finalizers.state worked.event worked.work worked.follows)) (ran begun old h same p runs))
-  ran begun m h same p (Told {m = old} key tells runs) =
-      subst (λ (k : Machine). IsAt k h) (sym tells.same) (told_on key old.phase (passed old) old.walk.kept old.walk.left old.walk.aside old.walk.off m.walk.off h tells.off (ran begun old h same p runs))
+  ran begun m h same p (Told {m = old} key tells runs) = subst (λ (k : Machine). IsAt k h) (sym tells.same) (told_on key old.phase (here_apart old) m.walk.off h tells.off (ran begun old h same p runs))
 
   -- what is taken and finished might as well be taken and finished at the end
   works : (begun m : Machine) (h : Graph) → WorksAfter b.taken b.held begun.finalizers.state → Runs E word_of value begun before m h → WorksAfter b.taken b.held m.finalizers.state
   works begun m h p Begun = p
-  works begun m h p (Goes {m = old} {g = g} answers goes runs honest) =
-      goes_works b.taken b.held goes.phase answers (going old.finalizers old.walk) m.phase (going m.finalizers m.walk) goes.goes (works begun old g p runs)
+  works begun m h p (Goes {m = old} {g = g} heard goes runs honest) =
+      goes_works b.taken b.held goes.phase old.regions heard (machines.going_of old) m.phase (machines.going_of m) goes.goes (works begun old g p runs)
   works begun m h p (Meanwhile {m = old} worked runs) =
       worked_on b.taken b.held old.finalizers.state m.finalizers.state worked.event worked.work worked.follows (works begun old h p runs)
   works begun m h p (Told {m = old} key tells runs) = subst (λ (k : Machine). WorksAfter b.taken b.held k.finalizers.state) (sym tells.same) (works begun old h p runs)
@@ -141,20 +259,16 @@ module _ (E : Type 0) (word_of : ℕ → Option ℕ) (value : Map Object → ℕ
   abbrev b : State
   b = record old.finalizers.state { passes = next_pass old.finalizers.passes }
 
-  no_later : (number : ℕ) (noted : Bool) → number < cond noted 0 begun.from → number < from
-  no_later number true lt = absurd (omega (arith, lt))
-  no_later number false lt = let same = is.from in omega (arith, lt, same)
+  no_later : (number : ℕ) → number < begun.from → number < from
+  no_later number lt = let same = is.from in omega (arith, lt, same)
 
   abbrev has_begun : HasBegun word_of b before
   has_begun = record {
     may = record { registered = may.registered; short = may.short; long = may.long; short_keys = may.short_keys; long_keys = may.long_keys; zero = may.zero; closed = may.closed; births = may.births; starts = may.starts; apart = may.apart };
     flags = (promised old.finalizers.state past reached).flags;
     single = single old.finalizers.state past reached;
-    scope = machines.scope begun;
-    seen = record {
-      registered = λ object r here lt. seen.registered object r here (no_later r.number begun.noted lt);
-      attached = λ number c here lt. seen.attached number c here (let same = is.from in omega (arith, lt, same));
-    };
+    from = begun.from;
+    seen = record { registered = λ object r here lt. seen.registered object r here (no_later r.number lt); attached = λ number c here lt. seen.attached number c here (no_later number lt) };
   }
 
   starts : IsIn E word_of value b before (Keys First) begun.finalizers.state begun.walk.kept begun.walk.left begun.walk.aside begun.walk.off before
@@ -169,30 +283,33 @@ module _ (E : Type 0) (word_of : ℕ → Option ℕ) (value : Map Object → ℕ
   as_b : apart b.taken b.held begun.finalizers.state ≡ begun.finalizers.state
   as_b = ap (apart b.taken b.held) is.finalizers ∙ sym is.finalizers
 
-  is_where : IsWhere E word_of value b before new.phase (apart b.taken b.held new.finalizers.state) new.walk.kept new.walk.left new.walk.aside new.walk.off after_it
+  abbrev there : Going
+  there = going_apart b.taken b.held (machines.going_of new)
+
+  is_where : IsWhere E word_of value b before has_begun new.phase there after_it
   is_where = ran E word_of value b before has_begun begun new after_it refl
-      (subst (λ (s : State). IsWhere E word_of value b before begun.phase s begun.walk.kept begun.walk.left begun.walk.aside begun.walk.off before) (sym as_b)
-      (subst (λ o. IsWhere E word_of value b before o begun.finalizers.state begun.walk.kept begun.walk.left begun.walk.aside begun.walk.off before) (sym is.phase) starts)) runs
+      (subst (λ (s : State). IsWhere E word_of value b before has_begun begun.phase (record (machines.going_of begun) { finalizers = s }) before) (sym as_b)
+      (subst (λ o. IsWhere E word_of value b before has_begun o (machines.going_of begun) before) (sym is.phase) (is.begins.told, starts))) runs
 
   works_on : WorksAfter b.taken b.held new.finalizers.state
   works_on = works E word_of value b before has_begun begun new after_it (subst (λ (s : State). machines.Works s begun.finalizers.state) (sym as_b) machines.Begun) runs
 
   -- where the pass is, as its phase says
-  pub where_it_is : (s : State) × (h : HasBegun word_of s before) × ((phase : Phase) → new.phase ≡ Some phase → IsIn E word_of value s before phase (apart s.taken s.held new.finalizers.state) new.walk.kept new.walk.left new.walk.aside new.walk.off after_it)
-  where_it_is = (b, has_begun, λ phase at. subst (λ o. IsWhere E word_of value b before o (apart b.taken b.held new.finalizers.state) new.walk.kept new.walk.left new.walk.aside new.walk.off after_it) at is_where)
+  pub where_it_is : (s : State) × (h : HasBegun word_of s before) × ((phase : Phase) → new.phase ≡ Some phase → IsOn E word_of value s before h phase (going_apart s.taken s.held (machines.going_of new)) after_it)
+  where_it_is = (b, has_begun, λ phase at. subst (λ o. IsWhere E word_of value b before has_begun o there after_it) at is_where)
 
 module _ (E : Type 0) (word_of : ℕ → Option ℕ) (value : Map Object → ℕ → Option ℕ) (from : ℕ) (old begun new : Machine) (past : Past) (before after_it : Graph) (reached : IsReached old.finalizers.state past) (is : IsBegunFrom from old begun) (may : MayBegin word_of old.finalizers.state before) (seen : AreOldMarked from old.finalizers.state before) (runs : Runs E word_of value begun before new after_it) (ends : new.phase ≡ None) where
   abbrev c : State
   c = b E word_of value from old begun new past before after_it reached is may seen runs
 
-  begins_so : HasBegun word_of c before
+  abbrev begins_so : HasBegun word_of c before
   begins_so = has_begun E word_of value from old begun new past before after_it reached is may seen runs
 
   abbrev end : State
   end = apart c.taken c.held new.finalizers.state
 
   at_end : IsAtEnd E word_of value c before end after_it
-  at_end = subst (λ o. IsWhere E word_of value c before o end new.walk.kept new.walk.left new.walk.aside new.walk.off after_it) ends (is_where E word_of value from old begun new past before after_it reached is may seen runs)
+  at_end = subst (λ o. IsWhere E word_of value c before begins_so o (going_apart c.taken c.held (machines.going_of new)) after_it) ends (is_where E word_of value from old begun new past before after_it reached is may seen runs)
 
   -- what is found
   abbrev found : ℕ → Bool

@@ -1,134 +1,33 @@
--- What holds of regions while the finalizers change.
-use Rattle.std.proofs.Common.{◌≡◌, ◌≢◌, ◌≤◌, ◌+◌, ℕ, Result, Ok, Err, OnOk, OnErr, length, Bool, true, false, true≢false, cond, is_some, List, [], Option, Some, None, IsTrue, inl, inr, refl, sym, ap, subst, ◌∙◌, ⊎_elim}
-use Rattle.std.proofs.lemmas.Bool.{cases_eq}
+-- What holds of a machine between passes, while calls change its finalizers and note what comes.
+use Rattle.std.proofs.Common.{◌≡◌, ◌≢◌, ◌⊎◌, ◌≤◌, ◌+◌, ◌<◌, ◌∙◌, [], ℕ, Bool, true, false, true≢false, IsTrue, List, Option, Some, None, Result, Ok, Err, OnErr, OnOk, get_or, inl, inr, length, map, refl, slice_index_or, sym, ap, subst, ⊎_elim, arith}
+use Rattle.std.proofs.lemmas.List.{get_or-map}
 use Rattle.std.proofs.lemmas.Option.{none-some}
-use Rattle.std.specs.FinMap.{get, insert, remove, empty, contains_key, get-empty}
-use Rattle.std.specs.Ordering.{nat_cmp}
-use Rattle.fz_model.specs.declared.answers.Registration.{Registration}
+use Rattle.std.specs.FinMap.{get, insert}
 use Rattle.fz_model.specs.declared.kinds.LinkKind.{LinkKind}
-use Rattle.fz_model.specs.declared.kinds.LinkKind.TheVariants.{Short, Long}
-use Rattle.fz_model.specs.State.{Map}
+use Rattle.fz_model.specs.declared.kinds.LinkKind.TheVariants.{Long, Short}
 use Rattle.fz_model.specs.Steps.{moved_to}
-use Rattle.fz_model.proofs.Maps.{get-remove_same, get-remove_other, get-insert_other}
 use Rattle.fz_pass.specs.Keyed.{moved}
 use Rattle.fz_finalizers.specs.Causes.{Causes}
-use Rattle.fz_finalizers.specs.Follows.{queued_cleanup, queued_object, queued_one, queued_attached}
-use Rattle.fz_finalizers.specs.Kinds.{is_late}
-use Rattle.fz_finalizers.specs.Passed.{CleansAll}
-use Rattle.fz_finalizers.specs.declared.refused.Refused.{Refused}
+use Rattle.fz_finalizers.specs.declared.cleanups.Cleanup.{Cleanup}
+use Rattle.fz_finalizers.specs.declared.kinds.Finalizer.{Finalizer}
+use Rattle.fz_finalizers.specs.Follows.{with_cleanup, with_registration}
 use Rattle.fz_finalizers.specs.States.{State, links_of, with_links}
-use Rattle.fz_finalizers.specs.declared.cleanups.Attached.{Attached}
-use Rattle.std.specs.Option.{option_map_or}
-use Rattle.fz_machine.specs.declared.item.Item.{Item}
 use Rattle.fz_machine.specs.declared.phase.Phase.{Phase}
-use Rattle.fz_machine.specs.declared.phase.Phase.TheVariants.{Keys, KeysAgain, Holders, Values, ShortCleanups, ShortTargets, ShortWords, ShortKeys, ShortKeyWords, Objects, Children, Again, Picks, LateAgain, LatePicks, LongTargets, LongWords, LongKeys, LongKeyWords, ShortHolders, LongHolders, ShortKeyHolders, LongKeyHolders, LongCleanups}
+use Rattle.fz_machine.specs.declared.phase.Phase.TheVariants.{Regions}
+use Rattle.fz_machine.specs.declared.phase.Sweep.{Sweep}
+use Rattle.fz_machine.specs.declared.phase.Sweep.TheVariants.{Objects}
 use Rattle.fz_machine.specs.Causes.{first_of}
-use Rattle.fz_machine.specs.Going.{HaveRoom, HasRoomToKeep, IsInOrder}
-use Rattle.fz_machine.specs.Phases.{after, settles_in}
-use Rattle.fz_model.specs.Bits.{has_bit}
-use Rattle.fz_machine.specs.Regions.{Regions, AreNoted, IsNoted, items_in, place_in, region_of}
-use Rattle.fz_machine.specs.Steps.{Going, skip, steps}
+use Rattle.fz_machine.specs.declared.machine.By.{By}
+use Rattle.fz_machine.specs.Going.{AreRenewed, AreTables, AsksNone, Changes, HaveRoom, IsInOrder, IsTable, Lacks}
+use Rattle.fz_machine.specs.Machines.{Keeps, Machine, Notes, is_noted, of_links, tabled_for}
+use Rattle.fz_machine.specs.Phases.{settles_in, swept}
+use Rattle.fz_machine.specs.Regions.{Regions as Table, IsNoted, IsOfSweep, IsUntold, KeepsTable, attached, holders, index_of, no_regions, table_at, targets}
 use Rattle.fz_machine.specs.Walks.{Walk}
-use Rattle.fz_machine.proofs.Throughout.{skip_keeps, steps_keep}
-
--- ---- the same registrations have the same items
-
-pub items_same : (s t : State) → t.registrations ≡ s.registrations → t.late ≡ s.late → (rs : List (ℕ × ℕ)) → items_in t rs ≡ items_in s rs
-items_same s t registrations late rs = λ i. items_in (record s { registrations = registrations i; late = late i }) rs
-
--- ---- fewer registrations are noted still
-
-abbrev pub IsFewer : Map Registration → Map Registration → Type 0
-IsFewer m n = (object : ℕ) → IsTrue (contains_key n object) → IsTrue (contains_key m object)
-
-pub noted_fewer : (s t : State) (rs : List (ℕ × ℕ)) → IsFewer s.registrations t.registrations → AreNoted s rs → AreNoted t rs
-noted_fewer s t rs fewer noted object there = noted object (fewer object there)
-
-pub same_fewer : (m n : Map Registration) → n ≡ m → IsFewer m n
-same_fewer m n same object there = subst (λ (k : Map Registration). IsTrue (contains_key k object)) same there
-
-pub removed_fewer : (m : Map Registration) (object : ℕ) → IsFewer m (remove m object)
-removed_fewer m object q there =
-    ⊎_elim
-    (λ (is : q ≡ object). absurd (true≢false (sym there ∙ ap is_some (ap (get (remove m object)) is ∙ get-remove_same m object))))
-    (λ (ne : q ≢ object). sym (ap is_some (get-remove_other m object q ne)) ∙ there)
-    (cases_eq q object)
-
-pub none_fewer : (m n : Map Registration) → n ≡ empty → IsFewer m n
-none_fewer m n none q there = absurd (true≢false (sym there ∙ ap is_some (ap (λ (k : Map Registration). get k q) none ∙ get-empty nat_cmp q)))
-
--- one that comes is noted
-pub noted_more : (s t : State) (rs ns : List (ℕ × ℕ)) (object : ℕ) (r : Registration) → t.registrations ≡ insert s.registrations object r → IsNoted ns object → ((other : ℕ) → IsNoted rs other → IsNoted ns other) → AreNoted s rs → AreNoted t ns
-noted_more s t rs ns object r is here kept noted q there =
-    ⊎_elim
-    (λ (same : q ≡ object). subst (IsNoted ns) (sym same) here)
-    (λ (ne : q ≢ object). kept q (noted q (sym (ap is_some (ap (λ (k : Map Registration). get k q) is ∙ get-insert_other s.registrations object r q ne)) ∙ there)))
-    (cases_eq q object)
-
--- ---- a pass only takes registrations away
-
-module _ (P : Map Registration → Type 0) (less : (m : Map Registration) (object : ℕ) → P m → P (remove m object)) where
-  cases : (b : Bool) (t u : State) → P t.registrations → P u.registrations → P (cond b t u).registrations
-  cases true t u x y = x
-  cases false t u x y = y
-
-  queued : (s : State) (object : ℕ) → P s.registrations → P (queued_object s object).registrations
-  queued s object h = by (get s.registrations object)
-    where
-      by : (o : Option Registration) → P (option_map_or (queued_one s object) o s).registrations
-      by None = h
-      by (Some r) = less s.registrations object h
-
-  cleaned : (s : State) (number : ℕ) → P s.registrations → P (queued_cleanup s number).registrations
-  cleaned s number h = by (get s.cleanups number)
-    where
-      by : (o : Option Attached) → P (option_map_or (queued_attached s number) o s).registrations
-      by None = h
-      by (Some c) = h
-
-  pub after_keeps : (phase : Phase) (item : Item) (answer : Bool) (s : State) → P s.registrations → P (after phase item answer s).registrations
-  after_keeps (Keys moment) item answer s h = h
-  after_keeps (KeysAgain moment) item answer s h = h
-  after_keeps (Holders moment) item answer s h = h
-  after_keeps (Values moment) item answer s h = h
-  after_keeps ShortCleanups item answer s h = cases answer s (queued_cleanup s item.word) h (cleaned s item.word h)
-  after_keeps ShortTargets item answer s h = h
-  after_keeps ShortWords item answer s h = h
-  after_keeps ShortKeys item answer s h = h
-  after_keeps ShortKeyWords item answer s h = h
-  after_keeps Objects item answer s h = h
-  after_keeps Children item answer s h = h
-  after_keeps Again item answer s h = h
-  after_keeps Picks item answer s h = cases (is_late item.kind) s (queued_object s item.object) h (queued s item.object h)
-  after_keeps LateAgain item answer s h = h
-  after_keeps LatePicks item answer s h = queued s item.object h
-  after_keeps LongTargets item answer s h = h
-  after_keeps LongWords item answer s h = h
-  after_keeps LongKeys item answer s h = h
-  after_keeps LongKeyWords item answer s h = h
-  after_keeps ShortHolders item answer s h = cases answer s (after ShortHolders item false s) h h
-  after_keeps LongHolders item answer s h = cases answer s (after LongHolders item false s) h h
-  after_keeps ShortKeyHolders item answer s h = cases answer s (after ShortKeyHolders item false s) h h
-  after_keeps LongKeyHolders item answer s h = cases answer s (after LongKeyHolders item false s) h h
-  after_keeps LongCleanups item answer s h = cases answer s (queued_cleanup s item.word) h (cleaned s item.word h)
-
-  pub skip_on : (phase : Phase) (g : Going) → P g.finalizers.registrations → P (skip phase g).finalizers.registrations
-  skip_on phase g h = skip_keeps (λ s. P s.registrations) after_keeps phase g h
-
-  pub steps_on : (phase : Phase) (answers : List Bool) (g : Going) → P g.finalizers.registrations → P (steps phase answers g).finalizers.registrations
-  steps_on phase answers g h = steps_keep (λ s. P s.registrations) after_keeps phase answers g h
-
-abbrev AllNoted : List (ℕ × ℕ) → Map Registration → Type 0
-AllNoted rs m = (object : ℕ) → IsTrue (contains_key m object) → IsNoted rs object
-
-less_noted : (rs : List (ℕ × ℕ)) (m : Map Registration) (object : ℕ) → AllNoted rs m → AllNoted rs (remove m object)
-less_noted rs m object h q there = h q (removed_fewer m object q there)
-
-pub skip_noted : (rs : List (ℕ × ℕ)) (phase : Phase) (g : Going) → AreNoted g.finalizers rs → AreNoted (skip phase g).finalizers rs
-skip_noted rs phase g h = skip_on (AllNoted rs) (less_noted rs) phase g h
-
-pub steps_noted : (rs : List (ℕ × ℕ)) (phase : Phase) (answers : List Bool) (g : Going) → AreNoted g.finalizers rs → AreNoted (steps phase answers g).finalizers rs
-steps_noted rs phase answers g h = steps_on (AllNoted rs) (less_noted rs) phase answers g h
+use Rattle.fz_machine.proofs.Less.{IsLess, IsOfLink, added_more, less_same, linked_more, moved_more, registered_more, state_less}
+use Rattle.fz_machine.proofs.Less.{tables_less as same_tables_less}
+use Rattle.fz_machine.proofs.Renewed.{still_untold}
+use Rattle.fz_machine.proofs.Tabled.{cases_sweep, index_within}
+use Rattle.fz_machine.proofs.Turned.{tables_less}
 
 -- ---- between passes
 
@@ -136,53 +35,237 @@ pub unopened : (phase : Option Phase) (causes : Causes) → first_of phase cause
 unopened None causes h = refl
 unopened (Some p) causes h = absurd (none-some _ (sym h))
 
-module _ (s : State) (walk : Walk) (regions : Regions) (phase : Option Phase) (asked : ℕ) (order : IsInOrder s walk regions phase asked) (idle : phase ≡ None) where
-  pub none_remain : regions.left ≡ []
-  none_remain = ⊎_elim (λ (none : regions.left ≡ []). none) (λ (on : (phase ≡ Some Objects) × (asked ≡ 0) × IsTrue regions.complete). absurd (none-some Objects (sym idle ∙ on.0))) order.during
+-- the invariant of a machine
+abbrev pub IsWell : State → Walk → List Table → Option Phase → ℕ → Type 0
+IsWell s walk tables phase asked = IsInOrder s walk tables phase × AsksNone phase asked × Lacks phase tables
 
+module _ (s : State) (walk : Walk) (tables : List Table) (phase : Option Phase) (asked : ℕ) (well : IsWell s walk tables phase asked) (idle : phase ≡ None) where
   pub idle_rooms : HaveRoom false s walk
-  idle_rooms = subst (λ (o : Option Phase). HaveRoom (settles_in o) s walk) idle order.room
+  idle_rooms = subst (λ (o : Option Phase). HaveRoom (settles_in o) s walk) idle well.0.room
 
-  -- a call takes registrations away, or leaves them
-  pub calm : (t : State) (other : Walk) → HaveRoom false t other → IsFewer s.registrations t.registrations → IsInOrder t other regions phase asked
-  calm t other room fewer = record { room = subst (λ (o : Option Phase). HaveRoom (settles_in o) t other) (sym idle) room; room_off = λ on. absurd (true≢false (sym on ∙ ap settles_in idle)); keeps = inl none_remain; noted = λ complete. noted_fewer s t regions.order fewer (order.noted complete); during = inl none_remain; by_regions = λ at all. absurd (none-some Objects (sym idle ∙ at)) }
+  pub idle_tables : AreTables s tables None
+  idle_tables = subst (AreTables s tables) idle well.0.tables
 
-unlinks : (s : State) (kind : LinkKind) (links : Map ℕ) → (with_links s kind links).registrations ≡ s.registrations
-unlinks s Short links = refl
-unlinks s Long links = refl
+  -- with other tables
+  pub anew : (t : State) (other : Walk) (ts : List Table) → HaveRoom false t other → AreTables t ts None → IsWell t other ts phase asked
+  anew t other ts room are = (
+    record { room = subst (λ (o : Option Phase). HaveRoom (settles_in o) t other) (sym idle) room; room_off = λ on. absurd (true≢false (sym on ∙ ap settles_in idle)); tables = subst (AreTables t ts) (sym idle) are },
+    subst (λ (o : Option Phase). AsksNone o asked) (sym idle) tt,
+    λ sweep at. absurd (none-some (swept sweep) (sym idle ∙ at)),
+  )
 
-pub unlinked_fewer : (s : State) (kind : LinkKind) (word : ℕ) (t : State) → t ≡ with_links s kind (remove (links_of s kind) word) → IsFewer s.registrations t.registrations
-unlinked_fewer s kind word t is = same_fewer s.registrations t.registrations (ap (λ (u : State). u.registrations) is ∙ unlinks s kind (remove (links_of s kind) word))
+  -- a call takes something away, or changes nothing that sweeps are about
+  pub calm : (t : State) (other : Walk) → HaveRoom false t other → IsLess s t → IsWell t other tables phase asked
+  calm t other room less = anew t other tables room (tables_less s t tables None less idle_tables)
 
-pub moved_fewer : {A : Type 0} (s : State) (kind : LinkKind) (word to : ℕ) (t : State) (result : Result A Refused) → OnErr result (t ≡ s)
-    → OnOk result (t ≡ with_links s kind (moved_to (links_of s kind) word to (get (links_of s kind) word))) → IsFewer s.registrations t.registrations
-moved_fewer s kind word to t (Ok x) same is = same_fewer s.registrations t.registrations (ap (λ (u : State). u.registrations) is ∙ unlinks s kind (moved_to (links_of s kind) word to (get (links_of s kind) word)))
-moved_fewer s kind word to t (Err r) same is = same_fewer s.registrations t.registrations (ap (λ (u : State). u.registrations) same)
+-- ---- something is noted
 
-pub moved_rows_fewer : {A : Type 0} (s : State) (word to : ℕ) (t : State) (result : Result A Refused) → OnErr result (t ≡ s) → OnOk result (t ≡ record s { ephemerons = moved s.ephemerons word to })
-    → IsFewer s.registrations t.registrations
-moved_rows_fewer s word to t (Ok x) same is = same_fewer s.registrations t.registrations (ap (λ (u : State). u.registrations) is)
-moved_rows_fewer s word to t (Err r) same is = same_fewer s.registrations t.registrations (ap (λ (u : State). u.registrations) same)
+keeps_same : (t : Table) → KeepsTable t t
+keeps_same t = record { same = refl; complete = λ on. on; kept = λ n noted. noted }
 
-pub cleaned_fewer : (s t : State) → CleansAll s t → IsFewer s.registrations t.registrations
-cleaned_fewer s t (mid, short, long) = same_fewer s.registrations t.registrations (ap (λ (u : State). u.registrations) long.2 ∙ ap (λ (u : State). u.registrations) short.2)
+keeps_twice : (t u v : Table) → KeepsTable t u → KeepsTable u v → KeepsTable t v
+keeps_twice t u v first second = record {
+  same = second.same ∙ (λ i. record (first.same i) { order = v.order; complete = v.complete });
+  complete = λ on. first.complete (second.complete on);
+  kept = λ n noted. second.kept n (first.kept n noted);
+}
 
--- ---- an entry is taken or finished
+-- each table keeps what it has
+abbrev pub KeepEach : List Table → List Table → Type 0
+KeepEach old new = (sweep : Sweep) → KeepsTable (table_at old sweep) (table_at new sweep)
 
-module _ (s t : State) (registrations : t.registrations ≡ s.registrations) (late : t.late ≡ s.late) (walk : Walk) (regions : Regions) where
-  pub still_fits : HasRoomToKeep s walk regions → HasRoomToKeep t walk regions
-  still_fits h = ⊎_elim (λ (none : regions.left ≡ []). inl none) (λ (on : (walk.left ≡ []) × (length walk.kept + length (items_in s regions.left) ≤ walk.room)). inr (on.0, subst (λ xs. length walk.kept + length xs ≤ walk.room) (sym (items_same s t registrations late regions.left)) on.1)) h
+pub keeps_each : (old new : List Table) (sweep : Sweep) → Changes sweep old new → KeepsTable (table_at old sweep) (table_at new sweep) → KeepEach old new
+keeps_each old new sweep changes keeps other =
+    ⊎_elim
+    (λ (is : other ≡ sweep). subst (λ (o : Sweep). KeepsTable (table_at old o) (table_at new o)) (sym is) keeps)
+    (λ (ne : other ≢ sweep). subst (KeepsTable (table_at old other)) (sym (changes.others other ne)) (keeps_same (table_at old other)))
+    (cases_sweep other sweep)
 
-  pub works_on : (phase : Option Phase) (asked : ℕ) → HaveRoom (settles_in phase) t walk → IsInOrder s walk regions phase asked → IsInOrder t walk regions phase asked
-  works_on phase asked room order = record { room = room; room_off = order.room_off; keeps = still_fits order.keeps; noted = λ complete. noted_fewer s t regions.order (same_fewer s.registrations t.registrations registrations) (order.noted complete); during = order.during; by_regions = order.by_regions }
+pub keeps_more : (old mid new : List Table) → KeepEach old mid → KeepEach mid new → KeepEach old new
+keeps_more old mid new first second sweep = keeps_twice (table_at old sweep) (table_at mid sweep) (table_at new sweep) (first sweep) (second sweep)
 
--- ---- a region is processed
+-- what comes is noted, unless memory lacks
+abbrev pub IsThere : List Table → Sweep → ℕ → Type 0
+IsThere tables sweep n = IsTrue (table_at tables sweep).complete → IsNoted (table_at tables sweep).order n
 
-module _ (s : State) (order new : List (ℕ × ℕ)) (region bits stay : ℕ) (own : (object : ℕ) → region_of object ≡ region → IsNoted order object → IsTrue (has_bit bits (place_in object)))
-    (others : (object : ℕ) → (region_of object ≡ region → ⊥) → IsNoted order object → IsNoted new object) (now : (object : ℕ) → region_of object ≡ region → IsTrue (has_bit stay (place_in object)) → IsNoted new object) where
-  pub passed_noted : ((object : ℕ) → region_of object ≡ region → IsTrue (has_bit bits (place_in object)) → IsTrue (contains_key s.registrations object) → IsTrue (has_bit stay (place_in object))) → AreNoted s order → AreNoted s new
-  passed_noted stays noted object there =
-      ⊎_elim
-      (λ (here : region_of object ≡ region). now object here (stays object here (own object here (noted object there)) there))
-      (λ (ne : region_of object ≢ region). others object ne (noted object there))
-      (cases_eq (region_of object) region)
+pub there_still : (old new : List Table) → KeepEach old new → (sweep : Sweep) (n : ℕ) → IsThere old sweep n → IsThere new sweep n
+there_still old new keeps sweep n there on = (keeps sweep).kept n (there ((keeps sweep).complete on))
+
+there_at : (tables : List Table) (a b : Sweep) (n m : ℕ) → a ≡ b → n ≡ m → IsThere tables b m → IsThere tables a n
+there_at tables a b n m sweep same there = subst (λ (o : Sweep). IsThere tables o n) (sym sweep) (subst (IsThere tables b) (sym same) there)
+
+module _ (s t : State) (old new : List Table) (are : AreTables s old None) (keeps : KeepEach old new) (count : length new ≡ length old) (comes : (sweep : Sweep) (n : ℕ) → IsOfSweep sweep t n → IsOfSweep sweep s n ⊎ IsThere new sweep n) where
+  one_table : (sweep : Sweep) → IsTable sweep t (table_at new sweep) None
+  one_table sweep =
+      let was = are.each sweep in
+      let untold = still_untold (table_at old sweep) (table_at new sweep) (keeps sweep) (was.idle (none-some (Regions sweep))) in
+      record {
+        noted = λ on n of. ⊎_elim (λ before. (keeps sweep).kept n (was.noted ((keeps sweep).complete on) n before)) (λ there. there on) (comes sweep n of);
+        whole = λ at. absurd (none-some (Regions sweep) at);
+        idle = λ none. untold;
+        lacking = λ off. untold;
+      }
+
+  pub noted_tables : AreTables t new None
+  noted_tables = record { each = one_table; count = count ∙ are.count }
+
+-- ---- by each call
+
+module _ (s t : State) (new : List Table) where
+  abbrev Comes : Type 0
+  Comes = (sweep : Sweep) (n : ℕ) → IsOfSweep sweep t n → IsOfSweep sweep s n ⊎ IsThere new sweep n
+
+  nothing_comes : t ≡ s → Comes
+  nothing_comes same sweep n of = inl (state_less s t same sweep n of)
+
+  module _ {A R : Type 0} (result : Result A R) (same : OnErr result (t ≡ s)) where
+    pub registered_comes : (object : ℕ) (finalizer : Finalizer) → IsThere new Objects object → OnOk result (t ≡ with_registration s object finalizer) → Comes
+    registered_comes object finalizer there follows = by result same follows
+      where
+        by : (r : Result A R) → OnErr r (t ≡ s) → OnOk r (t ≡ with_registration s object finalizer) → Comes
+        by (Err e) is follow = nothing_comes is
+        by (Ok x) is follow = λ sweep n of. ⊎_elim inl (λ at. inr (there_at new sweep Objects n object at.0 at.1 there)) (registered_more s object finalizer sweep n (subst (λ (u : State). IsOfSweep sweep u n) follow of))
+
+    pub linked_comes : (kind : LinkKind) (word target : ℕ) → IsThere new (targets kind) target → IsThere new (holders kind) word → OnOk result (t ≡ with_links s kind (insert (links_of s kind) word target)) → Comes
+    linked_comes kind word target to at follows = by result same follows
+      where
+        one : (sweep : Sweep) (n : ℕ) → IsOfLink kind word target sweep n → IsThere new sweep n
+        one sweep n (inl is) = there_at new sweep (targets kind) n target is.0 is.1 to
+        one sweep n (inr is) = there_at new sweep (holders kind) n word is.0 is.1 at
+
+        by : (r : Result A R) → OnErr r (t ≡ s) → OnOk r (t ≡ with_links s kind (insert (links_of s kind) word target)) → Comes
+        by (Err e) is follow = nothing_comes is
+        by (Ok x) is follow = λ sweep n of. ⊎_elim inl (λ new_one. inr (one sweep n new_one)) (linked_more s kind word target sweep n (subst (λ (u : State). IsOfSweep sweep u n) follow of))
+
+    pub moved_comes : (kind : LinkKind) (word to : ℕ) → IsThere new (holders kind) to → OnOk result (t ≡ with_links s kind (moved_to (links_of s kind) word to (get (links_of s kind) word))) → Comes
+    moved_comes kind word to there follows = by result same follows
+      where
+        by : (r : Result A R) → OnErr r (t ≡ s) → OnOk r (t ≡ with_links s kind (moved_to (links_of s kind) word to (get (links_of s kind) word))) → Comes
+        by (Err e) is follow = nothing_comes is
+        by (Ok x) is follow = λ sweep n of. ⊎_elim inl (λ at. inr (there_at new sweep (holders kind) n to at.0 at.1 there)) (moved_more s kind word to sweep n (subst (λ (u : State). IsOfSweep sweep u n) follow of))
+
+    pub added_comes : (object : ℕ) (cleanup : Cleanup) → IsThere new (attached cleanup.when) object → OnOk result (t ≡ with_cleanup s object cleanup) → Comes
+    added_comes object cleanup there follows = by result same follows
+      where
+        by : (r : Result A R) → OnErr r (t ≡ s) → OnOk r (t ≡ with_cleanup s object cleanup) → Comes
+        by (Err e) is follow = nothing_comes is
+        by (Ok x) is follow = λ sweep n of. ⊎_elim inl (λ at. inr (there_at new sweep (attached cleanup.when) n object at.0 at.1 there)) (added_more s object cleanup sweep n (subst (λ (u : State). IsOfSweep sweep u n) follow of))
+
+    -- nothing that sweeps are about comes
+    pub unchanged_or : OnOk result (IsLess s t) → IsLess s t
+    unchanged_or less = by result same less
+      where
+        by : (r : Result A R) → OnErr r (t ≡ s) → OnOk r (IsLess s t) → IsLess s t
+        by (Err e) is follow = state_less s t is
+        by (Ok x) is follow = follow
+
+-- words of ephemerons are noted nowhere
+pub moved_rows_less : {A R : Type 0} (s : State) (word to : ℕ) (t : State) (result : Result A R) → OnErr result (t ≡ s) → OnOk result (t ≡ record s { ephemerons = moved s.ephemerons word to }) → IsLess s t
+moved_rows_less s word to t (Err e) same is = state_less s t same
+moved_rows_less s word to t (Ok x) same is = subst (IsLess s) (sym is) (same_tables_less s (record s { ephemerons = moved s.ephemerons word to }) refl refl refl refl)
+
+-- ---- how many regions there are
+
+abbrev pub completes : List Table → List Bool
+completes tables = map (λ (t : Table). t.complete) tables
+
+abbrev pub sizes : List Table → List ℕ
+sizes tables = map (λ (t : Table). length t.order) tables
+
+module _ (tables : List Table) (many : length tables ≡ 7) (sweep : Sweep) where
+  within : index_of sweep < length tables
+  within = let lt = index_within sweep in omega (arith, lt, many)
+
+  pub complete_at : slice_index_or (completes tables) (index_of sweep) false ≡ (table_at tables sweep).complete
+  complete_at = get_or-map (λ (t : Table). t.complete) tables (index_of sweep) no_regions false within
+
+  pub size_at : slice_index_or (sizes tables) (index_of sweep) 0 ≡ length (table_at tables sweep).order
+  size_at = get_or-map (λ (t : Table). length t.order) tables (index_of sweep) no_regions 0 within
+
+pub complete_still : (old new : List Table) → length old ≡ 7 → length new ≡ 7 → (sweep : Sweep) → (table_at new sweep).complete ≡ (table_at old sweep).complete → slice_index_or (completes new) (index_of sweep) false ≡ slice_index_or (completes old) (index_of sweep) false
+complete_still old new many as_many sweep same = complete_at new as_many sweep ∙ same ∙ sym (complete_at old many sweep)
+
+off_too : (b : Bool) {c : Bool} → c ≡ b → (c ≡ true → ⊥) → c ≡ false
+off_too false is none = is
+off_too true is none = absurd (none is)
+
+-- what is noted already needs no memory
+pub noted_stays : (s : State) (sweep : Sweep) (n : ℕ) (old new : Table) → IsTable sweep s old None → KeepsTable old new → (IsNoted old.order n → new.complete ≡ old.complete) → IsOfSweep sweep s n → new.complete ≡ old.complete
+noted_stays s sweep n old new table keeps stays of = by old.complete refl
+  where
+    by : (on : Bool) → old.complete ≡ on → new.complete ≡ old.complete
+    by true on = stays (table.noted on n of)
+    by false off = off_too new.complete {c = new.complete} refl (λ on. true≢false (sym (keeps.complete on) ∙ off)) ∙ sym off
+
+-- ---- which regions change
+
+-- something more is noted in a table, or less of it is noted than should be
+abbrev pub NotesTable : Table → Table → Type 0
+NotesTable old new = (IsTrue new.complete → IsTrue old.complete) × (length new.order ≤ length old.order + 1)
+
+abbrev pub ChangesTable : Bool → Table → Table → Type 0
+ChangesTable noted old new = (IsTrue noted × NotesTable old new) ⊎ (new ≡ old)
+
+module _ (kind : LinkKind) (a b : Sweep) (a_is : a ≡ targets kind) (b_is : b ≡ holders kind) (old mid last new : List Table) (same : last ≡ mid) (first : Changes a old mid) (keeps : KeepsTable (table_at old a) (table_at mid a)) (few : length (table_at mid a).order ≤ length (table_at old a).order + 1)
+    (second : Changes b last new) (keeps_too : KeepsTable (table_at last b) (table_at new b)) (few_too : length (table_at new b).order ≤ length (table_at last b).order + 1) where
+  targets_are : (k : LinkKind) → IsTrue (of_links k (targets k))
+  targets_are Short = refl
+  targets_are Long = refl
+
+  holders_are : (k : LinkKind) → IsTrue (of_links k (holders k))
+  holders_are Short = refl
+  holders_are Long = refl
+
+  apart : (k : LinkKind) → targets k ≡ holders k → ⊥
+  apart Short is = let numbers = ap index_of is in omega (arith, numbers)
+  apart Long is = let numbers = ap index_of is in omega (arith, numbers)
+
+  -- the first change is all that happens to another table than the second one's
+  after_first : (sweep : Sweep) → sweep ≢ b → table_at new sweep ≡ table_at mid sweep
+  after_first sweep ne = second.others sweep ne ∙ ap (λ (ts : List Table). table_at ts sweep) same
+
+  before_second : (sweep : Sweep) → sweep ≢ a → table_at last sweep ≡ table_at old sweep
+  before_second sweep ne = ap (λ (ts : List Table). table_at ts sweep) same ∙ first.others sweep ne
+
+  pub linked_tables : (sweep : Sweep) → ChangesTable (of_links kind sweep) (table_at old sweep) (table_at new sweep)
+  linked_tables sweep = ⊎_elim at_first (λ not_first. ⊎_elim at_second (λ not_second. inr (after_first sweep not_second ∙ first.others sweep not_first)) (cases_sweep sweep b)) (cases_sweep sweep a)
+    where
+      at_first : sweep ≡ a → ChangesTable (of_links kind sweep) (table_at old sweep) (table_at new sweep)
+      at_first is =
+          let other : sweep ≢ b = λ too. apart kind (sym a_is ∙ sym is ∙ too ∙ b_is) in
+          let here : NotesTable (table_at old sweep) (table_at mid sweep) = subst (λ (o : Sweep). NotesTable (table_at old o) (table_at mid o)) (sym is) (keeps.complete, few) in
+          inl (subst (λ (o : Sweep). IsTrue (of_links kind o)) (sym (is ∙ a_is)) (targets_are kind), subst (NotesTable (table_at old sweep)) (sym (after_first sweep other)) here)
+
+      at_second : sweep ≡ b → ChangesTable (of_links kind sweep) (table_at old sweep) (table_at new sweep)
+      at_second is =
+          let other : sweep ≢ a = λ too. apart kind (sym a_is ∙ sym too ∙ is ∙ b_is) in
+          let here : NotesTable (table_at last sweep) (table_at new sweep) = subst (λ (o : Sweep). NotesTable (table_at last o) (table_at new o)) (sym is) (keeps_too.complete, few_too) in
+          inl (subst (λ (o : Sweep). IsTrue (of_links kind o)) (sym (is ∙ b_is)) (holders_are kind), subst (λ (t : Table). NotesTable t (table_at new sweep)) (before_second sweep other) here)
+
+-- the same of machines
+pub machines_note : (noted : Sweep → Bool) (before after : Machine) (old new : List Table) → length old ≡ 7 → length new ≡ 7 → before.noted ≡ completes old → before.tabled ≡ sizes old → after.noted ≡ completes new → after.tabled ≡ sizes new
+    → ((sweep : Sweep) → ChangesTable (noted sweep) (table_at old sweep) (table_at new sweep)) → (sweep : Sweep) → (IsTrue (noted sweep) × Notes before after sweep) ⊎ Keeps before after sweep
+machines_note noted before after old new many as_many old_noted old_tabled new_noted new_tabled changes sweep =
+    let was : is_noted sweep before ≡ (table_at old sweep).complete = ap (λ (bs : List Bool). slice_index_or bs (index_of sweep) false) old_noted ∙ complete_at old many sweep in
+    let is : is_noted sweep after ≡ (table_at new sweep).complete = ap (λ (bs : List Bool). slice_index_or bs (index_of sweep) false) new_noted ∙ complete_at new as_many sweep in
+    let was_size : tabled_for sweep before ≡ length (table_at old sweep).order = ap (λ (ns : List ℕ). slice_index_or ns (index_of sweep) 0) old_tabled ∙ size_at old many sweep in
+    let size : tabled_for sweep after ≡ length (table_at new sweep).order = ap (λ (ns : List ℕ). slice_index_or ns (index_of sweep) 0) new_tabled ∙ size_at new as_many sweep in
+    ⊎_elim
+    (λ (on : IsTrue (noted sweep) × NotesTable (table_at old sweep) (table_at new sweep)). inl (on.0, ((λ there. was ∙ on.1.0 (sym is ∙ there)), no_more (tabled_for sweep before) (tabled_for sweep after) (length (table_at old sweep).order) (length (table_at new sweep).order) was_size size on.1.1)))
+    (λ (same : table_at new sweep ≡ table_at old sweep). inr (is ∙ ap (λ (t : Table). t.complete) same ∙ sym was, size ∙ ap (λ (t : Table). length t.order) same ∙ sym was_size))
+    (changes sweep)
+  where
+    no_more : (a b c d : ℕ) → a ≡ c → b ≡ d → d ≤ c + 1 → b ≤ a + 1
+    no_more a b c d x y le = omega (arith, x, y, le)
+
+-- ---- all is noted again
+
+pub renewed_tables : (by : By) (s t : State) (old new : List Table) → t ≡ s → AreTables s old None → AreRenewed by t old new → AreTables t new None
+renewed_tables by s t old new same are renewed = record { each = one; count = renewed.count ∙ are.count }
+  where
+    one : (sweep : Sweep) → IsTable sweep t (table_at new sweep) None
+    one sweep =
+        ⊎_elim
+        (λ (is : table_at new sweep ≡ table_at old sweep). subst (λ (u : Table). IsTable sweep t u None) (sym is) (subst (λ (u : State). IsTable sweep u (table_at old sweep) None) (sym same) (are.each sweep)))
+        (λ is. record { noted = λ on. is.1.noted; whole = λ at. absurd (none-some (Regions sweep) at); idle = λ none. is.1.untold; lacking = λ off. is.1.untold })
+        (renewed.each sweep)

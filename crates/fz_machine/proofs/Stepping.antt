@@ -5,7 +5,7 @@ use Rattle.std.proofs.lemmas.Bool.Decides.{nat_tests}
 use Rattle.std.proofs.lemmas.Option.{none-some, same_Some}
 use Rattle.fz_machine.specs.declared.item.Item.{Item}
 use Rattle.fz_machine.specs.declared.phase.Phase.{Phase}
-use Rattle.fz_machine.specs.Phases.{Scope, asks}
+use Rattle.fz_machine.specs.Phases.{asks}
 use Rattle.fz_machine.specs.Steps.{Going, step, stepped, steps, skip, skipped, GoesOn, Asks, Turns, Ends}
 
 module _ (phase : Phase) where
@@ -52,12 +52,6 @@ module _ (phase : Phase) where
 
   pub skip_stops : (g : Going) (item : Item) (left : List Item) → (skip phase g).left ≡ item ∷ left → is_some (asks phase item) ≡ true
   skip_stops g item left at = skipped_stops g.left g refl item left at
-
--- what a pass stops at is asked about
-pub stops : {scope : Scope} (phase : Phase) (g : Going) (last : Option Phase) (k : Going) → GoesOn scope phase g last k → (p : Phase) → last ≡ Some p → (item : Item) × (slice_get k.left 0 ≡ Some item) × (is_some (asks p item) ≡ true)
-stops phase g last k (Asks item left at) p is = (item, ap (λ xs. slice_get xs 0) at, ap (λ q. is_some (asks q item)) (sym (same_Some phase p is)) ∙ skip_stops phase g item left at)
-stops phase g last k (Turns {next = next} {h = h} none turns begins rest) p is = stops next h last k rest p is
-stops phase g last k (Ends none turns) p is = absurd (none-some p is)
 
 -- no more answers are heard than were asked for
 pub heard : (answers : List Bool) (asked n : ℕ) → n ≡ min (length answers) asked → take n answers ≡ take asked answers

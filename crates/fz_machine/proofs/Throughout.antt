@@ -1,10 +1,21 @@
 -- What each answer keeps of the finalizers, a pass keeps.
-use Rattle.std.proofs.Common.{◌∷◌, [], Bool, true, false, cond, List, Option, sym, subst, is_some}
+use Rattle.std.proofs.Common.{◌≡◌, ◌∷◌, [], ℕ, Bool, true, false, cond, List, Option, refl, sym, subst, is_some}
 use Rattle.fz_finalizers.specs.States.{State}
 use Rattle.fz_machine.specs.declared.item.Item.{Item}
 use Rattle.fz_machine.specs.declared.phase.Phase.{Phase}
-use Rattle.fz_machine.specs.Phases.{Scope, after, asks}
-use Rattle.fz_machine.specs.Steps.{Asks, Ends, Going, GoesOn, Turns, skip, skipped, step, stepped, steps}
+use Rattle.fz_machine.specs.declared.phase.Phase.TheVariants.{Regions}
+use Rattle.fz_machine.specs.Machines.{Answers, Heard, Words, heard_by}
+use Rattle.fz_machine.specs.Phases.{after, asks}
+use Rattle.fz_machine.specs.Steps.{Asks, Ends, Going, GoesOn, Sweeps, Turns, skip, skipped, step, stepped, steps}
+
+-- answers are steps, and words change nothing but what was told
+pub heard_answers : (phase : Phase) (regions : List ℕ) (answers : List Bool) (g : Going) → heard_by phase regions (Answers answers) g ≡ steps phase answers g
+heard_answers (Regions sweep) regions answers g = refl
+heard_answers phase regions answers g = refl
+
+pub heard_words : (phase : Phase) (regions words : List ℕ) (g : Going) → heard_by phase regions (Words words) g ≡ record g { told = (heard_by phase regions (Words words) g).told }
+heard_words (Regions sweep) regions words g = refl
+heard_words phase regions words g = refl
 
 module _ (P : State → Type 0) (keeps : (phase : Phase) (item : Item) (answer : Bool) (s : State) → P s → P (after phase item answer s)) where
   module _ (phase : Phase) where
@@ -30,7 +41,14 @@ module _ (P : State → Type 0) (keeps : (phase : Phase) (item : Item) (answer :
     pub skip_keeps : (g : Going) → P g.finalizers → P (skip phase g).finalizers
     skip_keeps g h = skipped_keeps g.left g h
 
-  pub goes_keep : {scope : Scope} (phase : Phase) (g : Going) (last : Option Phase) (k : Going) → GoesOn scope phase g last k → P g.finalizers → P k.finalizers
+  -- words change nothing of them
+  pub heard_keeps : (phase : Phase) (regions : List ℕ) (heard : Heard) (g : Going) → P g.finalizers → P (heard_by phase regions heard g).finalizers
+  heard_keeps (Regions sweep) regions (Words words) g h = h
+  heard_keeps phase regions (Answers answers) g h = steps_keep phase answers g h
+  heard_keeps phase regions (Words words) g h = h
+
+  pub goes_keep : {from : ℕ} (phase : Phase) (g : Going) (last : Option Phase) (k : Going) → GoesOn from phase g last k → P g.finalizers → P k.finalizers
   goes_keep phase g last k (Asks item left some) h = skip_keeps phase g h
+  goes_keep phase g last k Sweeps h = h
   goes_keep phase g last k (Turns {next = next} {h = m} none turns begins rest) h = goes_keep next m last k rest (subst P (sym begins.same) (skip_keeps phase g h))
   goes_keep phase g last k (Ends none turns) h = skip_keeps phase g h

@@ -1,6 +1,6 @@
 -- From phase to phase, and to the end.
-use Rattle.std.proofs.Common.{◌≡◌, ◌++◌, ◌∙◌, [], ℕ, Bool, true, false, not, List, length, refl, sym, ap, subst, inl, inr, ⊎_elim, is_some, append-nil, IsTrue, Option}
-use Rattle.std.specs.FinMap.{retain_keys}
+use Rattle.std.proofs.Common.{◌≡◌, ◌++◌, ◌∙◌, [], ℕ, Bool, true, false, not, List, Some, length, refl, sym, ap, subst, inl, inr, ⊎_elim, is_some, append-nil, IsTrue, Option}
+use Rattle.std.specs.FinMap.{contains_key, get, retain_keys}
 use Rattle.std.specs.FinSet.{contains}
 use Rattle.fz_model.specs.State.{Map, Object}
 use Rattle.fz_model.specs.Memory.{points}
@@ -10,7 +10,7 @@ use Rattle.fz_pass.specs.Holds.{Ephemerons, IsOfKey}
 use Rattle.fz_pass.specs.Queued.{MarksLed}
 use Rattle.fz_pass.specs.QueuedWhole.{QueuesWhole}
 use Rattle.fz_pass.specs.Marks.{IsClosed, with_holders, with_targets}
-use Rattle.fz_pass.specs.Places.{placed, links_held}
+use Rattle.fz_pass.specs.Places.{is_held, placed, links_held}
 use Rattle.fz_pass.proofs.Holding.{whole_closed}
 use Rattle.fz_pass.proofs.Passed.{closed_still, dropped_twice}
 use Rattle.fz_pass.proofs.Tiers.{flag_of_round, unskipped_off}
@@ -23,20 +23,25 @@ use Rattle.fz_machine.specs.declared.item.Item.{Item}
 use Rattle.fz_machine.specs.declared.phase.Moment.{Moment}
 use Rattle.fz_machine.specs.declared.phase.Moment.TheVariants as moments
 use Rattle.fz_machine.specs.declared.phase.Phase.{Phase}
-use Rattle.fz_machine.specs.declared.phase.Phase.TheVariants.{Keys, KeysAgain, Holders, Values, ShortCleanups, ShortTargets, ShortWords, ShortKeys, ShortKeyWords, Objects, Children, Again, Picks, LateAgain, LatePicks, LongTargets, LongWords, LongKeys, LongKeyWords, ShortHolders, LongHolders, ShortKeyHolders, LongKeyHolders, LongCleanups}
-use Rattle.fz_machine.specs.Graph.{Graph}
+use Rattle.fz_machine.specs.declared.phase.Phase.TheVariants.{Keys, KeysAgain, Holders, Values, Regions, ShortCleanups, ShortTargets, ShortWords, ShortKeys, ShortKeyWords, Objects, Children, Again, Picks, LateAgain, LatePicks, LongTargets, LongWords, LongKeys, LongKeyWords, ShortHolders, LongHolders, ShortKeyHolders, LongKeyHolders, LongCleanups}
+use Rattle.fz_machine.specs.declared.phase.Sweep.TheVariants as sweeps
+use Rattle.fz_machine.specs.declared.question.Ask.TheVariants.{Live, Marks}
+use Rattle.fz_machine.specs.Graph.{AreHonestWords, Graph}
 use Rattle.fz_machine.specs.Items.{AreCleanups, AreEphemerons, AreInTurn, AreLinks, AreObjects, place_of}
+use Rattle.fz_machine.specs.Items as the
 use Rattle.fz_machine.specs.Off.{PutOff, looked_at, looking, looks_again, none_off}
 use Rattle.fz_machine.specs.Phases.{next_phase}
+use Rattle.fz_machine.specs.Regions.{IsOfSweep}
 use Rattle.fz_machine.proofs.Among.{AreInOrder, Each, OneOf, each_as, each_permuted, one_as, one_permuted, order_from}
 use Rattle.fz_machine.proofs.Begun.{HasBegun, closed, found_led, led_picked, long_key_targets, long_targets, normal, not_before, registered, short_key_targets, still_nowhere, was_there, young_attached, young_registered}
 use Rattle.fz_machine.proofs.Cleaning.{cleaning_all, cleaning_begins}
 use Rattle.fz_machine.proofs.Chosen.{choosing_begins, chosen_all}
 use Rattle.fz_machine.proofs.DeadWords.{IsLink, IsLinkAt}
-use Rattle.fz_machine.proofs.Entered.{IsEitherAt, either_at, IsLate, IsLateAt, IsOfEither, links_all, links_each, objects_all, objects_each}
+use Rattle.fz_machine.proofs.Entered.{IsEitherAt, either_at, IsLate, IsLateAt, IsOfEither, objects_all, objects_each, objects_known}
+use Rattle.fz_machine.proofs.Honest.{Knows, known_false, knows, none_known, not_told, object_of}
 use Rattle.fz_machine.proofs.Led.{leading_begins, led_all}
 use Rattle.fz_machine.proofs.Phased.{IsAfter, IsAtEnd, IsIn, IsSettling, IsUnfound, Leading, LeadsOn, Picked, PickedBoth, PicksLate, PicksOn, SettlesLed, SettlesPicked, SettlesLast, after_picks, begun_with, clear, cleared_links, judged, keys_held, keys_left, last, last_links, long_held, long_keys_held, long_keys_left, long_left, passed, picked_with, short_held, short_left}
-use Rattle.fz_machine.proofs.Phasing.{Sifts, Clears, clears_all, clears_begin, holds_all, holds_begin, sifts_begin}
+use Rattle.fz_machine.proofs.Phasing.{Sifts, Clears, clears_all, clears_begin, holds_all, holds_begin, sifts_begin, targets_begin}
 use Rattle.fz_machine.proofs.Sifting.{IsAt, sifted}
 use Rattle.fz_machine.proofs.Stated.{tabled}
 use Rattle.fz_machine.proofs.Delayed.{all_off}
@@ -77,21 +82,43 @@ module _ (E : Type 0) (word_of : ℕ → Option ℕ) (value : Map Object → ℕ
   abbrev At : Phase → State → List Item → List Item → List Item → PutOff → Graph → Type 0
   At = IsIn E word_of value b before
 
+  -- ---- what is told in a sweep
+
+  -- what these links lead to is known, as far as it was told
+  targets_known : (of : State → Map ℕ) (s t : State) (h : Graph) (marked : ℕ → Bool) (told : List (ℕ × ℕ)) → s ≡ t → h.marked ≡ marked → Knows h.marked (λ n. (word : ℕ) × (get (of s) word ≡ Some n)) told
+      → Knows marked (λ n. (word : ℕ) × (get (of t) word ≡ Some n)) told
+  targets_known of s t h marked told state marks_are k =
+      subst (λ (m : ℕ → Bool). Knows m (λ n. (word : ℕ) × (get (of t) word ≡ Some n)) told) marks_are (subst (λ (u : State). Knows h.marked (λ n. (word : ℕ) × (get (of u) word ≡ Some n)) told) state k)
+
+  -- and which of their words are held
+  words_known : (of : State → Map ℕ) (s t : State) (h : Graph) (objects : Map Object) (marked : ℕ → Bool) (told : List (ℕ × ℕ)) → s ≡ t → h.objects ≡ objects → h.marked ≡ marked
+      → Knows (λ n. is_held word_of h.objects h.marked n) (λ n. IsTrue (contains_key (of s) n)) told → Knows (λ n. is_held word_of objects marked n) (λ n. IsTrue (contains_key (of t) n)) told
+  words_known of s t h objects marked told state objects_are marks_are k =
+      subst (λ (m : ℕ → Bool). Knows m (λ n. IsTrue (contains_key (of t) n)) told) (λ i. λ (n : ℕ). is_held word_of (objects_are i) (marks_are i) n)
+      (subst (λ (u : State). Knows (λ n. is_held word_of h.objects h.marked n) (λ n. IsTrue (contains_key (of u) n)) told) state k)
+
   -- ---- to registered objects
 
-  to_short_keys : (s : State) (aside : List Item) (off : PutOff) (h : Graph) → Clears E word_of value (λ links. with_links links b.ephemerons.short) before.objects b.short before.marked s [] h → (items : List Item) → AreLinks s.ephemerons.short items → At ShortKeys s [] items aside off h
+  to_short_keys : (s : State) (aside : List Item) (off : PutOff) (h : Graph) → Clears E word_of value (λ links. with_links links b.ephemerons.short) before.objects b.short before.marked s [] h → (items : List Item) → AreLinks the.target_of [] s.ephemerons.short items → At ShortKeys s [] items aside off h
   to_short_keys s aside off h p items are =
       let all = clears_all E word_of value (λ links. with_links links b.ephemerons.short) before.objects b.short before.marked begin.short begin.apart s h p in
-      let listed : AreLinks b.ephemerons.short items = subst (λ (t : State). AreLinks t.ephemerons.short items) all.0 are in
-      sifts_begin E word_of value _ begun before.marked (IsLink word_of begun b.ephemerons.short before.marked) (IsLinkAt word_of begun b.ephemerons.short before.marked) s items h all.0 all.1 all.2
-      (links_each b.ephemerons.short items listed) (λ object word here off. links_all b.ephemerons.short items listed object word here)
+      let listed : AreLinks the.target_of [] b.ephemerons.short items = subst (λ (t : State). AreLinks the.target_of [] t.ephemerons.short items) all.0 are in
+      (targets_begin E word_of value (with_links shorts b.ephemerons.short) begun b.ephemerons.short before.marked [] (none_known before.marked (λ n. (word : ℕ) × (get b.ephemerons.short word ≡ Some n))) s items h all.0 all.1 all.2 listed).0
 
-  to_objects : (s : State) (aside : List Item) (off : PutOff) (h : Graph) → Clears E word_of value (λ keys. with_links shorts keys) begun b.ephemerons.short before.marked s [] h → (items : List Item) → AreObjects begin.scope.registrations s.registrations s.late items → At Objects s [] items aside off h
-  to_objects s aside off h p items are =
+  to_objects : (s : State) (aside : List Item) (off : PutOff) (h : Graph) → Clears E word_of value (λ keys. with_links shorts keys) begun b.ephemerons.short before.marked s [] h → (told : List (ℕ × ℕ)) → AreHonestWords word_of Marks (IsOfSweep sweeps.Objects s) h told
+      → (items : List Item) → AreObjects begin.from told s.registrations s.late items → At Objects s [] items aside off h
+  to_objects s aside off h p told true_words items are =
       let all = clears_all E word_of value (λ keys. with_links shorts keys) begun b.ephemerons.short before.marked (short_key_targets E word_of value b before begin) begin.apart s h p in
-      let listed : AreObjects begin.scope.registrations b.registrations b.late items = subst (λ (t : State). AreObjects begin.scope.registrations t.registrations t.late items) p.state are in
-      sifts_begin E word_of value _ clearly before.marked Either EitherAt s items h all.0 all.1 all.2 (objects_each b.registrations b.late begin.scope.registrations items listed)
-      (λ object word at off. objects_all b.registrations b.late begin.scope.registrations items listed object word at (λ r here. young_registered E word_of value b before begin object r here off))
+      let listed : AreObjects begin.from told b.registrations b.late items = subst (λ (t : State). AreObjects begin.from told t.registrations t.late items) p.state are in
+      let is_it : ℕ → Type 0 = λ n. IsTrue (contains_key b.registrations n) in
+      let known : Knows before.marked is_it told =
+      subst (λ (m : ℕ → Bool). Knows m is_it told) all.2 (subst (λ (t : State). Knows h.marked (λ n. IsTrue (contains_key t.registrations n)) told) p.state (knows word_of Marks (IsOfSweep sweeps.Objects s) h told true_words)) in
+      let each = objects_each b.registrations b.late begin.from told items listed in (
+        sifts_begin E word_of value (with_links shorts keys) clearly before.marked Either EitherAt s items h all.0 all.1 all.2 each
+            (λ object word at off. objects_all b.registrations b.late begin.from told items listed object word at (λ r here. young_registered E word_of value b before begin object r here off)
+            (not_told before.marked is_it told known object (⊎_elim (λ x. x.0) (λ x. x.0) at) off)),
+        known_false before.marked is_it told object_of known items (each_as Either (λ (i : Item). is_it i.object) (λ i either. ⊎_elim (λ x. ap is_some x.1) (λ x. ap is_some x.1) either) items each) (objects_known b.registrations b.late begin.from told items listed),
+      )
 
   to_children : (s : State) (kept : List Item) (h : Graph) → Sifts E word_of value (with_links shorts keys) clearly before.marked Either EitherAt s kept [] h → (items : List Item) → items ≡ kept → LeadsOn E word_of value b before s [] items h
   to_children s kept h p items is =
@@ -211,9 +238,9 @@ module _ (E : Type 0) (word_of : ℕ → Option ℕ) (value : Map Object → ℕ
         looks_begin E word_of value clearly rows h.marked items h p.are.objects refl all.1.closed (subst (λ (t : State). AreEphemerons t.ephemerons items) p.state are),
       )
 
-  to_long_targets : (s : State) (off : PutOff) (more_aside : List Item) (more_off : PutOff) (h : Graph) → looks_again off ≡ false → (w : SettlesLast E word_of value b before s) → waiting.Marking E word_of value clearly rows w.marked [] (all_off off) off.again h → (items : List Item) → AreLinks s.long items
-      → At LongTargets s [] items more_aside more_off h
-  to_long_targets s off more_aside more_off h over w p items are =
+  to_long_targets : (s : State) (off : PutOff) (more_aside : List Item) (more_off : PutOff) (h : Graph) → looks_again off ≡ false → (w : SettlesLast E word_of value b before s) → waiting.Marking E word_of value clearly rows w.marked [] (all_off off) off.again h
+      → (told : List (ℕ × ℕ)) → AreHonestWords word_of Marks (IsOfSweep sweeps.LongTargets s) h told → (items : List Item) → AreLinks the.target_of told s.long items → At LongTargets s [] items more_aside more_off h
+  to_long_targets s off more_aside more_off h over w p told true_words items are =
       let c : PickedBoth E word_of value b before = record {
         first = w.first;
         table = w.table;
@@ -224,11 +251,10 @@ module _ (E : Type 0) (word_of : ℕ → Option ℕ) (value : Map Object → ℕ
         marks = w.marks;
         settled = is_settled E word_of value clearly rows w.marked off h over p;
       } in
-      let listed : AreLinks b.long items = subst (λ (t : State). AreLinks t.long items) w.state are in (
-        c,
-        sifts_begin E word_of value _ clearly h.marked (IsLink word_of clearly b.long h.marked) (IsLinkAt word_of clearly b.long h.marked) s items h w.state p.settling.objects_are refl (links_each b.long items listed)
-            (λ object word here un. links_all b.long items listed object word here),
-      )
+      let listed : AreLinks the.target_of told b.long items = subst (λ (t : State). AreLinks the.target_of told t.long items) w.state are in
+      let known = targets_known (λ t. t.long) s _ h h.marked told w.state refl (knows word_of Marks (IsOfSweep sweeps.LongTargets s) h told true_words) in
+      let sifts = targets_begin E word_of value (after_picks E word_of value b before c shorts b.long keys b.ephemerons.long) clearly b.long h.marked told known s items h w.state p.settling.objects_are refl listed in
+      (c, sifts.0, sifts.1)
 
   -- ---- while the marks become whole
 
@@ -258,79 +284,82 @@ module _ (E : Type 0) (word_of : ℕ → Option ℕ) (value : Map Object → ℕ
 
   -- and once they are
   behind_on : (moment : Moment) (s : State) (kept aside : List Item) (off : PutOff) (h : Graph) → looks_again off ≡ false → IsSettling E word_of value b before moment (Values moment) s kept [] aside off h
-      → IsAfter E word_of value b before begin.scope (next_phase (Values moment) false) s kept aside off h
+      → IsAfter E word_of value b before begin.from (next_phase (Values moment) false) s kept aside off h
   behind_on moments.First s kept aside off h over p = absurd p
-  behind_on moments.Led s kept aside off h over (w, p) = λ items is. to_again s aside off [] none_off h over w p items is
-  behind_on moments.Picked s kept aside off h over (w, p) = λ items is. to_late_again s aside off [] none_off h over w p items is
-  behind_on moments.Last s kept aside off h over (w, p) = λ items are. to_long_targets s off [] none_off h over w p items are
+  behind_on moments.Led s kept aside off h over (w, p) = λ told none items is. to_again s aside off [] none_off h over w p items is
+  behind_on moments.Picked s kept aside off h over (w, p) = λ told none items is. to_late_again s aside off [] none_off h over w p items is
+  behind_on moments.Last s kept aside off h over (w, p) = λ told true_words items are. to_long_targets s off [] none_off h over w p told true_words items are
 
   -- ---- all phases
 
-  pub turn : (phase : Phase) (s : State) (kept aside : List Item) (off : PutOff) (h : Graph) → At phase s kept [] aside off h → IsAfter E word_of value b before begin.scope (next_phase phase (looks_again off)) s kept aside off h
-  turn (Keys moment) s kept aside off h p = λ items is. on_holders moment s kept aside off h p items is
-  turn (KeysAgain moment) s kept aside off h p = λ items is. again_holders moment s kept aside off h p items is
-  turn (Holders moment) s kept aside off h p = λ items is. on_values moment s kept aside off h p items is
+  pub turn : (phase : Phase) (s : State) (kept aside : List Item) (off : PutOff) (h : Graph) → At phase s kept [] aside off h → IsAfter E word_of value b before begin.from (next_phase phase (looks_again off)) s kept aside off h
+  turn (Keys moment) s kept aside off h p = λ told none items is. on_holders moment s kept aside off h p items is
+  turn (KeysAgain moment) s kept aside off h p = λ told none items is. again_holders moment s kept aside off h p items is
+  turn (Holders moment) s kept aside off h p = λ told none items is. on_values moment s kept aside off h p items is
   turn (Values moment) s kept aside off h p = by (looks_again off) refl
     where
-      by : (more : Bool) → looks_again off ≡ more → IsAfter E word_of value b before begin.scope (next_phase (Values moment) more) s kept aside off h
+      by : (more : Bool) → looks_again off ≡ more → IsAfter E word_of value b before begin.from (next_phase (Values moment) more) s kept aside off h
       by false over = behind_on moment s kept aside off h over p
-      by true again = λ items is. on_keys moment s kept aside off h p items is
+      by true again = λ told none items is. on_keys moment s kept aside off h p items is
+  turn (Regions sweep) s kept aside off h p = absurd p
   turn ShortCleanups s kept aside off h p = absurd p
-  turn ShortTargets s kept aside off h p = λ items is. clears_begin E word_of value (λ links. with_links links b.ephemerons.short) before.objects b.short before.marked begin.short s kept items h p is
-  turn ShortWords s kept aside off h p = λ items are. to_short_keys s aside off h p items are
-  turn ShortKeys s kept aside off h p = λ items is. clears_begin E word_of value (λ keys. with_links shorts keys) begun b.ephemerons.short before.marked (short_key_targets E word_of value b before begin) s kept items h p is
-  turn ShortKeyWords s kept aside off h p = λ items are. to_objects s aside off h p items are
-  turn Objects s kept aside off h p = λ items is. to_children s kept h p items is
-  turn Children s kept aside off h p = λ items are. to_led s kept h p items are
-  turn Again s kept aside off h (l, p) = λ items turned. to_picks s kept h l p items turned
-  turn Picks s kept aside off h p = λ items are. to_picked s kept h p items are
-  turn LateAgain s kept aside off h (c, p, ordered) = λ items is. to_late_picks s kept h c p ordered items is
-  turn LatePicks s kept aside off h p = λ items are. to_last s kept h p items are
-  turn LongTargets s kept aside off h (c, p) = λ items is.
+  turn ShortTargets s kept aside off h p = λ told none items is. clears_begin E word_of value (λ links. with_links links b.ephemerons.short) before.objects b.short before.marked begin.short s kept items h p.0 is
+  turn ShortWords s kept aside off h p = λ told none items are. to_short_keys s aside off h p items are
+  turn ShortKeys s kept aside off h p = λ told none items is. clears_begin E word_of value (λ keys. with_links shorts keys) begun b.ephemerons.short before.marked (short_key_targets E word_of value b before begin) s kept items h p is
+  turn ShortKeyWords s kept aside off h p = λ told true_words items are. to_objects s aside off h p told true_words items are
+  turn Objects s kept aside off h p = λ told none items is. to_children s kept h p.0 items is
+  turn Children s kept aside off h p = λ told none items are. to_led s kept h p items are
+  turn Again s kept aside off h (l, p) = λ told none items turned. to_picks s kept h l p items turned
+  turn Picks s kept aside off h p = λ told none items are. to_picked s kept h p items are
+  turn LateAgain s kept aside off h (c, p, ordered) = λ told none items is. to_late_picks s kept h c p ordered items is
+  turn LatePicks s kept aside off h p = λ told none items are. to_last s kept h p items are
+  turn LongTargets s kept aside off h (c, p, known) = λ told none items is.
       (c, clears_begin E word_of value (λ links. after_picks E word_of value b before c shorts links keys b.ephemerons.long) clearly b.long c.kept (long_targets E word_of value b before begin) s kept items h p is)
-  turn LongWords s kept aside off h (c, p) = λ items are.
+  turn LongWords s kept aside off h (c, p) = λ told none items are.
       let all = clears_all E word_of value (λ links. after_picks E word_of value b before c shorts links keys b.ephemerons.long) clearly b.long c.kept (long_targets E word_of value b before begin) begin.apart s h p in
-      let listed : AreLinks b.ephemerons.long items = subst (λ (t : State). AreLinks t.ephemerons.long items) all.0 are in
-      let cleared_long = last_links E word_of value b before c in (
+      let listed : AreLinks the.target_of [] b.ephemerons.long items = subst (λ (t : State). AreLinks the.target_of [] t.ephemerons.long items) all.0 are in (
         c,
-        sifts_begin E word_of value _ cleared_long c.kept (IsLink word_of cleared_long b.ephemerons.long c.kept) (IsLinkAt word_of cleared_long b.ephemerons.long c.kept) s items h all.0 all.1 all.2
-            (links_each b.ephemerons.long items listed) (λ object word here un. links_all b.ephemerons.long items listed object word here),
+        (targets_begin E word_of value (after_picks E word_of value b before c shorts (long_left E word_of value b before c) keys b.ephemerons.long) (last_links E word_of value b before c) b.ephemerons.long c.kept []
+            (none_known c.kept (λ n. (word : ℕ) × (get b.ephemerons.long word ≡ Some n))) s items h all.0 all.1 all.2 listed).0,
       )
-  turn LongKeys s kept aside off h (c, p) = λ items is.
+  turn LongKeys s kept aside off h (c, p) = λ told none items is.
       (c, clears_begin E word_of value (λ others. after_picks E word_of value b before c shorts (long_left E word_of value b before c) keys others) (last_links E word_of value b before c) b.ephemerons.long c.kept (long_key_targets E word_of value b before begin c.kept) s kept items h p is)
-  turn LongKeyWords s kept aside off h (c, p) = λ items are.
-      let all = clears_all E word_of value (λ others. after_picks E word_of value b before c shorts (long_left E word_of value b before c) keys others) (last_links E word_of value b before c) b.ephemerons.long c.kept (long_key_targets E word_of value b before begin c.kept) begin.apart s h p in (
-        c,
-        holds_begin E word_of value (λ links. after_picks E word_of value b before c links (long_left E word_of value b before c) keys (long_keys_left E word_of value b before c)) (last E word_of value b before c) shorts c.kept s items h all.0 all.1 all.2
-            (subst (λ (t : State). AreLinks t.short items) all.0 are),
-      )
-  turn ShortHolders s kept aside off h (c, p) = λ items are.
-      let all = holds_all E word_of value (λ links. after_picks E word_of value b before c links (long_left E word_of value b before c) keys (long_keys_left E word_of value b before c)) (last E word_of value b before c) shorts c.kept s h p in (
-        c,
-        holds_begin E word_of value (λ links. after_picks E word_of value b before c (short_held E word_of value b before c) links keys (long_keys_left E word_of value b before c)) (last E word_of value b before c) (long_left E word_of value b before c) c.kept s items h
-            all.0 all.1 all.2 (subst (λ (t : State). AreLinks t.long items) all.0 are),
-      )
-  turn LongHolders s kept aside off h (c, p) = λ items are.
+  turn LongKeyWords s kept aside off h (c, p) = λ told true_words items are.
+      let all = clears_all E word_of value (λ others. after_picks E word_of value b before c shorts (long_left E word_of value b before c) keys others) (last_links E word_of value b before c) b.ephemerons.long c.kept (long_key_targets E word_of value b before begin c.kept) begin.apart s h p in
+      let holds = holds_begin E word_of value (λ links. after_picks E word_of value b before c links (long_left E word_of value b before c) keys (long_keys_left E word_of value b before c)) (last E word_of value b before c) shorts c.kept told
+      (words_known (λ t. t.short) s _ h (last E word_of value b before c) c.kept told all.0 all.1 all.2 (knows word_of Live (IsOfSweep sweeps.ShortHolders s) h told true_words)) s items h all.0 all.1 all.2
+      (subst (λ (t : State). AreLinks the.word_of told t.short items) all.0 are) in
+      (c, holds.0, holds.1)
+  turn ShortHolders s kept aside off h (c, p, known) = λ told true_words items are.
+      let all = holds_all E word_of value (λ links. after_picks E word_of value b before c links (long_left E word_of value b before c) keys (long_keys_left E word_of value b before c)) (last E word_of value b before c) shorts c.kept s h p in
+      let holds = holds_begin E word_of value (λ links. after_picks E word_of value b before c (short_held E word_of value b before c) links keys (long_keys_left E word_of value b before c)) (last E word_of value b before c) (long_left E word_of value b before c) c.kept told
+      (words_known (λ t. t.long) s _ h (last E word_of value b before c) c.kept told all.0 all.1 all.2 (knows word_of Live (IsOfSweep sweeps.LongHolders s) h told true_words)) s items h all.0 all.1 all.2
+      (subst (λ (t : State). AreLinks the.word_of told t.long items) all.0 are) in
+      (c, holds.0, holds.1)
+  turn LongHolders s kept aside off h (c, p, known) = λ told none items are.
       let all = holds_all E word_of value (λ links. after_picks E word_of value b before c (short_held E word_of value b before c) links keys (long_keys_left E word_of value b before c)) (last E word_of value b before c) (long_left E word_of value b before c) c.kept s h p in (
         c,
-        holds_begin E word_of value (λ others. after_picks E word_of value b before c (short_held E word_of value b before c) (long_held E word_of value b before c) others (long_keys_left E word_of value b before c)) (last E word_of value b before c) keys c.kept s items h
-            all.0 all.1 all.2 (subst (λ (t : State). AreLinks t.ephemerons.short items) all.0 are),
+        (holds_begin E word_of value (λ others. after_picks E word_of value b before c (short_held E word_of value b before c) (long_held E word_of value b before c) others (long_keys_left E word_of value b before c)) (last E word_of value b before c) keys c.kept []
+            (none_known (λ n. is_held word_of (last E word_of value b before c) c.kept n) (λ n. IsTrue (contains_key keys n))) s items h all.0 all.1 all.2 (subst (λ (t : State). AreLinks the.target_of [] t.ephemerons.short items) all.0 are)).0,
       )
-  turn ShortKeyHolders s kept aside off h (c, p) = λ items are.
+  turn ShortKeyHolders s kept aside off h (c, p) = λ told none items are.
       let all = holds_all E word_of value (λ others. after_picks E word_of value b before c (short_held E word_of value b before c) (long_held E word_of value b before c) others (long_keys_left E word_of value b before c)) (last E word_of value b before c) keys c.kept s h p in (
         c,
-        holds_begin E word_of value (λ others. after_picks E word_of value b before c (short_held E word_of value b before c) (long_held E word_of value b before c) (keys_held E word_of value b before c) others) (last E word_of value b before c)
-            (long_keys_left E word_of value b before c) c.kept s items h all.0 all.1 all.2 (subst (λ (t : State). AreLinks t.ephemerons.long items) all.0 are),
+        (holds_begin E word_of value (λ others. after_picks E word_of value b before c (short_held E word_of value b before c) (long_held E word_of value b before c) (keys_held E word_of value b before c) others) (last E word_of value b before c)
+            (long_keys_left E word_of value b before c) c.kept [] (none_known (λ n. is_held word_of (last E word_of value b before c) c.kept n) (λ n. IsTrue (contains_key (long_keys_left E word_of value b before c) n))) s items h all.0 all.1 all.2
+            (subst (λ (t : State). AreLinks the.target_of [] t.ephemerons.long items) all.0 are)).0,
       )
-  turn LongKeyHolders s kept aside off h (c, p) = λ items are.
+  turn LongKeyHolders s kept aside off h (c, p) = λ told true_words items are.
       let all = holds_all E word_of value (λ others. after_picks E word_of value b before c (short_held E word_of value b before c) (long_held E word_of value b before c) (keys_held E word_of value b before c) others) (last E word_of value b before c)
-      (long_keys_left E word_of value b before c) c.kept s h p in (
-        c,
-        cleaning_begins E word_of value Long (passed E word_of value b before c) (last E word_of value b before c) c.kept begin.scope.cleanups s items h
-            (young_attached E word_of value b before begin c.kept (λ a on. c.settled.more a (c.marks.least a (inl (led_picked E word_of value b before begin c.first a (found_led E word_of value b before begin c.first.leading a on)))))) all.0 all.1 all.2
-            (subst (λ (t : State). AreCleanups begin.scope.cleanups Long t.cleanups items) all.0 are),
-      )
-  turn LongCleanups s kept aside off h (c, p) =
+      (long_keys_left E word_of value b before c) c.kept s h p in
+      let known : Knows c.kept (IsOfSweep sweeps.LongCleanups (passed E word_of value b before c)) told =
+      subst (λ (m : ℕ → Bool). Knows m (IsOfSweep sweeps.LongCleanups (passed E word_of value b before c)) told) all.2
+      (subst (λ (t : State). Knows h.marked (IsOfSweep sweeps.LongCleanups t) told) all.0 (knows word_of Marks (IsOfSweep sweeps.LongCleanups s) h told true_words)) in
+      let cleaning = cleaning_begins E word_of value Long (passed E word_of value b before c) (last E word_of value b before c) c.kept begin.from told known s items h
+      (young_attached E word_of value b before begin c.kept (λ a on. c.settled.more a (c.marks.least a (inl (led_picked E word_of value b before begin c.first a (found_led E word_of value b before begin c.first.leading a on)))))) all.0 all.1 all.2
+      (subst (λ (t : State). AreCleanups begin.from told Long t.cleanups items) all.0 are) in
+      (c, cleaning.0, cleaning.1)
+  turn LongCleanups s kept aside off h (c, p, known) =
       record { chosen = c; cleaned = cleaning_all E word_of value Long (passed E word_of value b before c) (last E word_of value b before c) c.kept s h p; objects_are = p.objects_are; marks_are = p.marks_are }
 
   -- ---- what is left at the end

@@ -15,10 +15,10 @@ use Rattle.fz_machine.specs.declared.phase.Phase.{Phase}
 use Rattle.fz_machine.specs.declared.phase.Phase.TheVariants.{Keys, KeysAgain, Holders, Values}
 use Rattle.fz_machine.specs.declared.question.Ask.TheVariants.{IsMarked, IsHolderMarked, MarkValue}
 use Rattle.fz_machine.specs.Graph.{Graph, IsHonest, MayBeAsked}
-use Rattle.fz_machine.specs.Items.{AreEphemerons}
+use Rattle.fz_machine.specs.Items.{AreEphemerons, target_of}
 use Rattle.fz_machine.specs.Machines.{TellsIn}
 use Rattle.fz_machine.specs.Off.{PutOff, is_again, looked_at, looking, looks_again, put_off, stuck_with}
-use Rattle.fz_machine.specs.Phases.{asks, keeps, subject}
+use Rattle.fz_machine.specs.Phases.{ask_of, keeps, subject}
 use Rattle.fz_machine.proofs.Among.{Each, OneOf, each_append, each_as, each_parts, each_permuted, each_push, one_last, one_left, one_part, one_permuted, one_right}
 use Rattle.fz_machine.proofs.Entered.{links_all, links_each}
 use Rattle.fz_machine.proofs.Phasing.{kept_on}
@@ -199,7 +199,7 @@ module _ (E : Type 0) (word_of : ℕ → Option ℕ) (value : Map Object → ℕ
       by true on = on
       by false on = on
 
-  pub looks_on : (phase : Phase) (kept left : List Item) (off : PutOff) (item : Item) (h new : Graph) → Looks phase kept (item ∷ left) off h → (answer : Bool) → IsHonest E word_of value (asks phase item) (subject phase item) h answer new
+  pub looks_on : (phase : Phase) (kept left : List Item) (off : PutOff) (item : Item) (h new : Graph) → Looks phase kept (item ∷ left) off h → (answer : Bool) → IsHonest E word_of value (ask_of phase item) (subject phase item) h answer new
       → Looks phase (kept_on (keeps phase item answer) kept item) left (put_off phase item answer off) new
   looks_on (Keys moment) kept left off item h new s answer honest = keys_on kept left off item h new s answer honest
   looks_on (KeysAgain moment) kept left off item h new s answer honest = keys_on kept left off item h new s answer honest
@@ -207,7 +207,7 @@ module _ (E : Type 0) (word_of : ℕ → Option ℕ) (value : Map Object → ℕ
   looks_on (Values moment) kept left off item h new s answer honest = values_on left off item h new s answer honest
   looks_on phase kept left off item h new s answer honest = absurd s
 
-  pub looks_may : (phase : Phase) (kept left : List Item) (off : PutOff) (item : Item) (h : Graph) → Looks phase kept (item ∷ left) off h → MayBeAsked (asks phase item) (subject phase item) h
+  pub looks_may : (phase : Phase) (kept left : List Item) (off : PutOff) (item : Item) (h : Graph) → Looks phase kept (item ∷ left) off h → MayBeAsked (ask_of phase item) (subject phase item) h
   looks_may (Keys moment) kept left off item h s = tt
   looks_may (KeysAgain moment) kept left off item h s = tt
   looks_may (Holders moment) kept left off item h s = tt
@@ -254,10 +254,10 @@ module _ (E : Type 0) (word_of : ℕ → Option ℕ) (value : Map Object → ℕ
     };
     kept_are = tt;
     left_are = subst (Each IsRow) (sym is)
-        (each_append IsRow shorts longs (each_as (λ i. get ephemerons.short i.word ≡ Some i.object) IsRow (λ i here. inl here) shorts (links_each ephemerons.short shorts short_are))
-        (each_as (λ i. get ephemerons.long i.word ≡ Some i.object) IsRow (λ i here. inr here) longs (links_each ephemerons.long longs long_are)));
+        (each_append IsRow shorts longs (each_as (λ i. get ephemerons.short i.word ≡ Some i.object) IsRow (λ i here. inl here) shorts (links_each target_of [] ephemerons.short shorts short_are))
+        (each_as (λ i. get ephemerons.long i.word ≡ Some i.object) IsRow (λ i here. inr here) longs (links_each target_of [] ephemerons.long longs long_are)));
     all = λ word key of. inr (inl (subst (OneOf (IsAt key word)) (sym is)
-        (⊎_elim (λ here. one_left (IsAt key word) shorts longs (links_all ephemerons.short shorts short_are key word here)) (λ here. one_right (IsAt key word) shorts longs (links_all ephemerons.long longs long_are key word here)) of)));
+        (⊎_elim (λ here. one_left (IsAt key word) shorts longs (links_all target_of [] ephemerons.short shorts short_are key word here refl)) (λ here. one_right (IsAt key word) shorts longs (links_all target_of [] ephemerons.long longs long_are key word here refl)) of)));
   }
 
   pub to_holders : (kept items : List Item) (off : PutOff) (h : Graph) → Sweeps (λ m. IsRow) HasKey kept [] (all_off off) off.again h → items ≡ kept → Sweeps HasKey HasBoth [] items (all_off off) off.again h

@@ -11,7 +11,7 @@ use Rattle.fz_finalizers.specs.States.{State}
 use Rattle.fz_finalizers.proofs.Counting.{len_less}
 use Rattle.fz_machine.specs.declared.item.Item.{Item}
 use Rattle.fz_machine.specs.declared.phase.Phase.{Phase}
-use Rattle.fz_machine.specs.declared.phase.Phase.TheVariants.{Keys, KeysAgain, Holders, Values, ShortCleanups, ShortTargets, ShortWords, ShortKeys, ShortKeyWords, Objects, Children, Again, Picks, LateAgain, LatePicks, LongTargets, LongWords, LongKeys, LongKeyWords, ShortHolders, LongHolders, ShortKeyHolders, LongKeyHolders, LongCleanups}
+use Rattle.fz_machine.specs.declared.phase.Phase.TheVariants.{Keys, KeysAgain, Holders, Values, Regions, ShortCleanups, ShortTargets, ShortWords, ShortKeys, ShortKeyWords, Objects, Children, Again, Picks, LateAgain, LatePicks, LongTargets, LongWords, LongKeys, LongKeyWords, ShortHolders, LongHolders, ShortKeyHolders, LongKeyHolders, LongCleanups}
 use Rattle.fz_machine.specs.Phases.{after, without_key}
 
 -- no more registrations, links and ephemerons than these, and cleanups of which this holds
@@ -61,6 +61,7 @@ module _ (r s g es el : ℕ) (C : Map Attached → Type 0) (fewer : (m : Map Att
   still (KeysAgain moment) item answer = h
   still (Holders moment) item answer = h
   still (Values moment) item answer = h
+  still (Regions sweep) item answer = h
   still ShortCleanups item answer = cases answer t (queued_cleanup t item.word) h (cleaned item.word)
   still ShortTargets item answer = h
   still ShortWords item answer = without_short item.word

@@ -13,12 +13,12 @@ use Rattle.fz_finalizers.specs.Kinds.{is_late}
 use Rattle.fz_finalizers.specs.States.{State, is_held}
 use Rattle.fz_machine.specs.declared.item.Item.{Item}
 use Rattle.fz_machine.specs.declared.phase.Phase.{Phase}
-use Rattle.fz_machine.specs.declared.phase.Phase.TheVariants.{Keys, KeysAgain, Holders, Values, ShortCleanups, ShortTargets, ShortWords, ShortKeys, ShortKeyWords, Objects, Children, Again, Picks, LateAgain, LatePicks, LongTargets, LongWords, LongKeys, LongKeyWords, ShortHolders, LongHolders, ShortKeyHolders, LongKeyHolders, LongCleanups}
+use Rattle.fz_machine.specs.declared.phase.Phase.TheVariants.{Keys, KeysAgain, Holders, Values, Regions, ShortCleanups, ShortTargets, ShortWords, ShortKeys, ShortKeyWords, Objects, Children, Again, Picks, LateAgain, LatePicks, LongTargets, LongWords, LongKeys, LongKeyWords, ShortHolders, LongHolders, ShortKeyHolders, LongKeyHolders, LongCleanups}
 use Rattle.fz_machine.specs.Machines as machines
-use Rattle.fz_machine.specs.Machines.{IsWork, Works}
+use Rattle.fz_machine.specs.Machines.{Answers, Heard, IsWork, Words, Works, heard_by}
 use Rattle.fz_machine.specs.Off.{looks_again, put_off}
-use Rattle.fz_machine.specs.Phases.{Scope, Lists, after, asks, given, keeps, next_phase, without_key}
-use Rattle.fz_machine.specs.Steps.{Asks, Begins, Ends, Going, GoesOn, Turns, skip, skipped, step, stepped, steps}
+use Rattle.fz_machine.specs.Phases.{Lists, after, asks, given, keeps, next_phase, without_key}
+use Rattle.fz_machine.specs.Steps.{Asks, Begins, Ends, Going, GoesOn, Sweeps, Turns, skip, skipped, step, stepped, steps}
 use Rattle.fz_machine.proofs.Phasing.{kept_on}
 use Rattle.fz_machine.proofs.Throughout as throughout
 
@@ -29,11 +29,12 @@ module _ (P : (State → State) → Type 0) (same : P (λ s. s)) (short : (word 
   unless true f h = same
   unless false f h = h
 
-  by_change : (phase : Phase) (item : Item) (answer : Bool) → P (λ s. after phase item answer s)
+  pub by_change : (phase : Phase) (item : Item) (answer : Bool) → P (λ s. after phase item answer s)
   by_change (Keys moment) item answer = same
   by_change (KeysAgain moment) item answer = same
   by_change (Holders moment) item answer = same
   by_change (Values moment) item answer = same
+  by_change (Regions sweep) item answer = same
   by_change ShortCleanups item answer = unless answer (λ s. queued_cleanup s item.word) (cleaned item.word)
   by_change ShortTargets item answer = same
   by_change ShortWords item answer = short item.word
@@ -90,7 +91,7 @@ module _ (taken : ℕ) (held : List Entry) where
       where
         by : (xs : List Item) → stepped phase answer (going_apart g) xs ≡ going_apart (stepped phase answer g xs)
         by [] = refl
-        by (item ∷ left) = λ i. record { finalizers = after_apart phase item answer g.finalizers i; kept = kept_on (keeps phase item answer) g.kept item; left = left; aside = g.aside; off = put_off phase item answer g.off }
+        by (item ∷ left) = λ i. record { finalizers = after_apart phase item answer g.finalizers i; kept = kept_on (keeps phase item answer) g.kept item; left = left; aside = g.aside; off = put_off phase item answer g.off; told = g.told }
 
     pub steps_apart : (answers : List Bool) (g : Going) → steps phase answers (going_apart g) ≡ going_apart (steps phase answers g)
     steps_apart [] g = refl
@@ -108,43 +109,57 @@ module _ (taken : ℕ) (held : List Entry) where
     skip_apart : (g : Going) → skip phase (going_apart g) ≡ going_apart (skip phase g)
     skip_apart g = skipped_apart g.left g
 
-  lists_apart : (phase : Phase) (scope : Scope) (s : State) (kept items : List Item) → Lists phase scope s kept items → Lists phase scope (apart s) kept items
-  lists_apart (Keys moment) scope s kept items is = is
-  lists_apart (KeysAgain moment) scope s kept items is = is
-  lists_apart (Holders moment) scope s kept items is = is
-  lists_apart (Values moment) scope s kept items is = is
-  lists_apart ShortCleanups scope s kept items is = is
-  lists_apart ShortTargets scope s kept items is = is
-  lists_apart ShortWords scope s kept items is = is
-  lists_apart ShortKeys scope s kept items is = is
-  lists_apart ShortKeyWords scope s kept items is = is
-  lists_apart Objects scope s kept items is = is
-  lists_apart Children scope s kept items is = is
-  lists_apart Again scope s kept items is = is
-  lists_apart Picks scope s kept items is = is
-  lists_apart LateAgain scope s kept items is = is
-  lists_apart LatePicks scope s kept items is = is
-  lists_apart LongTargets scope s kept items is = is
-  lists_apart LongWords scope s kept items is = is
-  lists_apart LongKeys scope s kept items is = is
-  lists_apart LongKeyWords scope s kept items is = is
-  lists_apart ShortHolders scope s kept items is = is
-  lists_apart LongHolders scope s kept items is = is
-  lists_apart ShortKeyHolders scope s kept items is = is
-  lists_apart LongKeyHolders scope s kept items is = is
-  lists_apart LongCleanups scope s kept items is = is
+  pub heard_apart : (phase : Phase) (regions : List ℕ) (heard : Heard) (g : Going) → heard_by phase regions heard (going_apart g) ≡ going_apart (heard_by phase regions heard g)
+  heard_apart (Regions sweep) regions (Words words) g = refl
+  heard_apart phase regions (Answers answers) g = steps_apart phase answers g
+  heard_apart phase regions (Words words) g = refl
 
-  begins_apart : {scope : Scope} (phase : Phase) (g k : Going) → Begins scope phase g k → Begins scope phase (going_apart g) (going_apart k)
-  begins_apart {scope = scope} phase g k begins = record { same = ap apart begins.same; none = begins.none; lists = lists_apart phase scope g.finalizers (given phase g.kept g.aside g.off) k.left begins.lists; aside = begins.aside; off = begins.off }
+  lists_apart : (phase : Phase) (from : ℕ) (told : List (ℕ × ℕ)) (s : State) (kept items : List Item) → Lists phase from told s kept items → Lists phase from told (apart s) kept items
+  lists_apart (Keys moment) from told s kept items is = is
+  lists_apart (KeysAgain moment) from told s kept items is = is
+  lists_apart (Holders moment) from told s kept items is = is
+  lists_apart (Values moment) from told s kept items is = is
+  lists_apart (Regions sweep) from told s kept items is = is
+  lists_apart ShortCleanups from told s kept items is = is
+  lists_apart ShortTargets from told s kept items is = is
+  lists_apart ShortWords from told s kept items is = is
+  lists_apart ShortKeys from told s kept items is = is
+  lists_apart ShortKeyWords from told s kept items is = is
+  lists_apart Objects from told s kept items is = is
+  lists_apart Children from told s kept items is = is
+  lists_apart Again from told s kept items is = is
+  lists_apart Picks from told s kept items is = is
+  lists_apart LateAgain from told s kept items is = is
+  lists_apart LatePicks from told s kept items is = is
+  lists_apart LongTargets from told s kept items is = is
+  lists_apart LongWords from told s kept items is = is
+  lists_apart LongKeys from told s kept items is = is
+  lists_apart LongKeyWords from told s kept items is = is
+  lists_apart ShortHolders from told s kept items is = is
+  lists_apart LongHolders from told s kept items is = is
+  lists_apart ShortKeyHolders from told s kept items is = is
+  lists_apart LongKeyHolders from told s kept items is = is
+  lists_apart LongCleanups from told s kept items is = is
 
-  pub goes_apart : {scope : Scope} (phase : Phase) (g : Going) (last : Option Phase) (k : Going) → GoesOn scope phase g last k → GoesOn scope phase (going_apart g) last (going_apart k)
-  goes_apart {scope = scope} phase g last k (Asks item left some) =
-      subst (λ (m : Going). GoesOn scope phase (going_apart g) (Some phase) m) (skip_apart phase g) (Asks item left (ap (λ (m : Going). m.left) (skip_apart phase g) ∙ some))
-  goes_apart {scope = scope} phase g last k (Turns {next = next} {h = h} none turns begins rest) =
+  begins_apart : {from : ℕ} (phase : Phase) (g k : Going) → Begins from phase g k → Begins from phase (going_apart g) (going_apart k)
+  begins_apart {from = from} phase g k begins = record {
+    same = ap apart begins.same;
+    none = begins.none;
+    lists = lists_apart phase from g.told g.finalizers (given phase g.kept g.aside g.off) k.left begins.lists;
+    aside = begins.aside;
+    off = begins.off;
+    told = begins.told;
+  }
+
+  pub goes_apart : {from : ℕ} (phase : Phase) (g : Going) (last : Option Phase) (k : Going) → GoesOn from phase g last k → GoesOn from phase (going_apart g) last (going_apart k)
+  goes_apart {from = from} phase g last k (Asks item left some) =
+      subst (λ (m : Going). GoesOn from phase (going_apart g) (Some phase) m) (skip_apart phase g) (Asks item left (ap (λ (m : Going). m.left) (skip_apart phase g) ∙ some))
+  goes_apart phase g last k Sweeps = Sweeps
+  goes_apart {from = from} phase g last k (Turns {next = next} {h = h} none turns begins rest) =
       Turns (ap (λ (m : Going). m.left) (skip_apart phase g) ∙ none) (ap (λ (m : Going). next_phase phase (looks_again m.off)) (skip_apart phase g) ∙ turns)
-      (subst (λ (m : Going). Begins scope next m (going_apart h)) (sym (skip_apart phase g)) (begins_apart next (skip phase g) h begins)) (goes_apart next h last k rest)
-  goes_apart {scope = scope} phase g last k (Ends none turns) =
-      subst (λ (m : Going). GoesOn scope phase (going_apart g) None m) (skip_apart phase g) (Ends (ap (λ (m : Going). m.left) (skip_apart phase g) ∙ none) (ap (λ (m : Going). next_phase phase (looks_again m.off)) (skip_apart phase g) ∙ turns))
+      (subst (λ (m : Going). Begins from next m (going_apart h)) (sym (skip_apart phase g)) (begins_apart next (skip phase g) h begins)) (goes_apart next h last k rest)
+  goes_apart {from = from} phase g last k (Ends none turns) =
+      subst (λ (m : Going). GoesOn from phase (going_apart g) None m) (skip_apart phase g) (Ends (ap (λ (m : Going). m.left) (skip_apart phase g) ∙ none) (ap (λ (m : Going). next_phase phase (looks_again m.off)) (skip_apart phase g) ∙ turns))
 
   -- a worker changes nothing else
   pub work_apart : (s t : State) (event : Event) → IsWork event → Follows s event t → apart t ≡ apart s
@@ -218,8 +233,8 @@ module _ (taken : ℕ) (held : List Entry) where
   keeps_works phase item answer s works =
       subst (λ (t : State). Works t (after phase item answer s)) (after_apart taken held phase item answer s) (works_after phase item answer (apart taken held s) s works)
 
-  pub goes_works : {scope : Scope} (phase : Phase) (answers : List Bool) (g : Going) (last : Option Phase) (k : Going) → GoesOn scope phase (steps phase answers g) last k → WorksAfter g.finalizers → WorksAfter k.finalizers
-  goes_works phase answers g last k goes works = throughout.goes_keep WorksAfter keeps_works phase (steps phase answers g) last k goes (throughout.steps_keep WorksAfter keeps_works phase answers g works)
+  pub goes_works : {from : ℕ} (phase : Phase) (regions : List ℕ) (heard : Heard) (g : Going) (last : Option Phase) (k : Going) → GoesOn from phase (heard_by phase regions heard g) last k → WorksAfter g.finalizers → WorksAfter k.finalizers
+  goes_works phase regions heard g last k goes works = throughout.goes_keep WorksAfter keeps_works phase (heard_by phase regions heard g) last k goes (throughout.heard_keeps WorksAfter keeps_works phase regions heard g works)
 
   pub worked_on : (s t : State) (event : Event) → IsWork event → Follows s event t → WorksAfter s → WorksAfter t
   worked_on s t event work follows works = subst (λ (u : State). Works u t) (sym (work_apart taken held s t event work follows)) (machines.Goes event work works follows)

@@ -5,7 +5,7 @@ use Rattle.std.specs.List.{range_with_len}
 use Rattle.fz_model.specs.Bits.{has_bit}
 use Rattle.fz_machine.specs.declared.question.Ask.{Ask}
 use Rattle.fz_machine.specs.declared.question.TheConstants.{BATCH}
-use Rattle.fz_machine.specs.declared.question.Ask.TheVariants.{IsMarked, MarkChildren, MarkOthers, Mark, MarkAlone, Clear, IsHolderMarked, Marks, MarkValue}
+use Rattle.fz_machine.specs.declared.question.Ask.TheVariants.{IsMarked, MarkChildren, MarkOthers, Mark, MarkAlone, Clear, IsHolderMarked, Marks, Live, MarkValue}
 
 abbrev pub number_of : Ask → ℕ
 number_of IsMarked = 1
@@ -16,6 +16,7 @@ number_of MarkAlone = 5
 number_of Clear = 6
 number_of IsHolderMarked = 7
 number_of Marks = 8
+number_of Live = 9
 number_of MarkValue = 10
 
 -- the answers in a 64-bit word, from its lowest bit on

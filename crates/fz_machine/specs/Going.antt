@@ -1,28 +1,25 @@
 -- The parts of a machine that the steps of a pass use.
--- code: fz_machine/src/asking.rt, reserving.rt
-use Rattle.std.specs.Prelude.{◌≡◌, ◌⊎◌, ℕ, ◌+◌, ◌≤◌, ◌<◌, ◌++◌, Bool, true, false, if◌then◌else◌, [], length, slice_get, Option, None, Some, IsTrue}
+-- code: fz_machine/src/asking.rt, going_on.rt, reserving.rt
+use Rattle.std.specs.Prelude.{◌≡◌, ◌⊎◌, ℕ, suc, ◌+◌, ◌/◌, ◌<◌, ◌≤◌, ◌++◌, Bool, true, false, if◌then◌else◌, List, [], ◌∷◌, drop, length, map, slice_get, is_some, Option, None, Some, IsTrue}
 use Rattle.std.specs.FinMap.{get, len}
+use Rattle.std.specs.Map.{keys_of}
 use Rattle.fz_model.specs.declared.kinds.LinkKind.{LinkKind}
 use Rattle.fz_finalizers.specs.States.{State, View, limited, links_of}
-use Rattle.fz_machine.specs.declared.phase.Moment.{Moment}
+use Rattle.fz_machine.specs.declared.machine.By.{By}
 use Rattle.fz_machine.specs.declared.phase.Moment.TheVariants.{First}
 use Rattle.fz_machine.specs.declared.phase.Phase.{Phase}
-use Rattle.fz_machine.specs.declared.phase.Phase.TheVariants.{Keys, KeysAgain, Holders, Values, ShortCleanups, ShortTargets, ShortWords, ShortKeys, ShortKeyWords, Objects, Again, LateAgain, LongTargets}
-use Rattle.fz_machine.specs.Off.{count_off}
-use Rattle.fz_machine.specs.Phases.{settles_in}
-use Rattle.fz_machine.specs.Regions.{Regions, AreNoted, items_in, items_of, objects_in}
+use Rattle.fz_machine.specs.declared.phase.Phase.TheVariants.{Keys, KeysAgain, Holders, Values, Regions, ShortCleanups, ShortTargets, ShortWords, ShortKeys, ShortKeyWords, Objects, Again, LateAgain, LongTargets, LongWords, LongKeys, LongKeyWords, ShortHolders, LongHolders, ShortKeyHolders, LongKeyHolders, LongCleanups}
+use Rattle.fz_machine.specs.declared.phase.Sweep.{Sweep}
+use Rattle.fz_machine.specs.declared.phase.Sweep.TheVariants as sweeps
+use Rattle.fz_machine.specs.declared.item.Item.{Item}
+use Rattle.fz_machine.specs.Off.{count_off, none_off}
+use Rattle.fz_machine.specs.Phases.{asks, settles_in, swept}
+use Rattle.fz_machine.specs.Regions.{Regions as Table, AreNoted, IsTold, IsUntold, KeepsTable, index_of, most_of, table_at}
 use Rattle.fz_machine.specs.Steps.{Going}
 use Rattle.fz_machine.specs.Walks.{Walk}
 
-abbrev pub going : View → Walk → Going
-going finalizers walk = record { finalizers = finalizers.state; kept = walk.kept; left = walk.left; aside = walk.aside; off = walk.off }
-
--- the same while registered objects are processed by regions: those of the remaining regions are left, too
-abbrev pub walk_by : State → Walk → Regions → Walk
-walk_by s walk regions = record walk { left = items_in s regions.left ++ walk.left }
-
-abbrev pub going_by : View → Walk → Regions → Going
-going_by finalizers walk regions = going finalizers (walk_by finalizers.state walk regions)
+abbrev pub going : View → Walk → List (ℕ × ℕ) → Going
+going finalizers walk told = record { finalizers = finalizers.state; kept = walk.kept; left = walk.left; aside = walk.aside; off = walk.off; told = told }
 
 -- the list and the one set aside have the same room, and no fewer ephemerons can be put off
 abbrev pub IsSameRoom : Walk → Walk → Type 0
@@ -39,14 +36,6 @@ KeepsBeside old new = (new.aside ≡ old.aside) × (new.off ≡ old.off) × IsSa
 -- another list replaces the list, and has no less room
 abbrev pub IsListed : Walk → Walk → Type 0
 IsListed old new = (new ≡ record old { kept = []; left = new.left; room = new.room }) × (old.room ≤ new.room)
-
--- while regions remain, the list itself has nothing left, and has room to keep what is left in them
-abbrev pub HasRoomToKeep : State → Walk → Regions → Type 0
-HasRoomToKeep s walk regions = (regions.left ≡ []) ⊎ ((walk.left ≡ []) × (length walk.kept + length (items_in s regions.left) ≤ walk.room))
-
--- the first region that remains has a registered object
-abbrev pub HasFirst : State → Regions → Type 0
-HasFirst s regions = (r : ℕ × ℕ) → slice_get regions.left 0 ≡ Some r → 0 < length (items_of s (objects_in r))
 
 -- how many ephemerons there are, of both kinds
 abbrev pub ephemerons_in : State → ℕ
@@ -71,59 +60,174 @@ abbrev pub HasRoomOff : Bool → Walk → Type 0
 HasRoomOff settling walk =
     IsTrue settling → (length walk.kept + length walk.left + count_off walk.off ≤ walk.room) × (length walk.kept + length walk.left + count_off walk.off ≤ walk.off_room)
 
--- no more regions are there than before, and no more of them remain
-pub record AreFewer (old new : Regions) : Type 0 where
-  pub tabled : length new.order ≤ length old.order
-  pub left : length new.left ≤ length old.left
+-- whether a sweep asks about regions, if those are noted
+abbrev pub is_by : Sweep → By → Bool
+is_by sweeps.ShortHolders by = by.live
+is_by sweeps.LongHolders by = by.live
+is_by sweep by = by.marks
 
--- how many regions a pass has still to process: all that there are, until it comes to registered objects, and then those that remain
-abbrev pub is_first : Moment → Bool
-is_first First = true
-is_first moment = false
+abbrev pub noted_by : By → List Bool
+noted_by by = by.marks ∷ by.marks ∷ by.marks ∷ by.marks ∷ by.live ∷ by.live ∷ by.marks ∷ []
 
-abbrev pub is_early : Phase → Bool
-is_early (Keys moment) = is_first moment
-is_early (KeysAgain moment) = is_first moment
-is_early (Holders moment) = is_first moment
-is_early (Values moment) = is_first moment
-is_early ShortCleanups = true
-is_early ShortTargets = true
-is_early ShortWords = true
-is_early ShortKeys = true
-is_early ShortKeyWords = true
-is_early phase = false
+-- no sweep has more regions than before
+abbrev pub AreFewer : List ℕ → List ℕ → Type 0
+AreFewer [] [] = Unit {0}
+AreFewer [] (n ∷ ns) = ⊥
+AreFewer (o ∷ os) [] = ⊥
+AreFewer (o ∷ os) (n ∷ ns) = (n ≤ o) × AreFewer os ns
 
-abbrev pub to_process : Option Phase → ℕ → ℕ → ℕ
-to_process (Some phase) all remaining = if is_early phase then all else remaining
-to_process None all remaining = remaining
+-- how many questions so many regions take
+abbrev pub questions_of : ℕ → ℕ
+questions_of n = (n + 63) / 64
 
-abbrev pub to_process_by : Option Phase → Regions → ℕ
-to_process_by phase regions = to_process phase (length regions.order) (length regions.left)
+abbrev pub questions_in : List ℕ → ℕ
+questions_in [] = 0
+questions_in (n ∷ ns) = questions_of n + questions_in ns
 
--- how many of so many a phase begins with
-abbrev pub begins_with : Phase → ℕ → ℕ
-begins_with Objects all = all
-begins_with phase all = 0
+-- how many sweeps have begun by a phase
+abbrev pub swept_by : Phase → ℕ
+swept_by (Keys First) = 0
+swept_by (KeysAgain First) = 0
+swept_by (Holders First) = 0
+swept_by (Values First) = 0
+swept_by (Regions sweep) = suc (index_of sweep)
+swept_by ShortCleanups = 1
+swept_by ShortTargets = 2
+swept_by ShortWords = 2
+swept_by ShortKeys = 2
+swept_by ShortKeyWords = 2
+swept_by LongTargets = 4
+swept_by LongWords = 4
+swept_by LongKeys = 4
+swept_by LongKeyWords = 4
+swept_by ShortHolders = 5
+swept_by LongHolders = 6
+swept_by ShortKeyHolders = 6
+swept_by LongKeyHolders = 6
+swept_by LongCleanups = 7
+swept_by phase = 3
 
--- the invariant of a machine: its lists have room; each registered object is noted, if the regions are complete; regions remain only while registered objects
--- are processed, after no question or one about regions; and if they are complete, all registered objects are processed by regions
-pub record IsInOrder (s : State) (walk : Walk) (regions : Regions) (phase : Option Phase) (asked : ℕ) : Type 0 where
+abbrev pub swept_in : Option Phase → ℕ
+swept_in (Some phase) = swept_by phase
+swept_in None = 7
+
+-- how many questions about regions an open pass can still process: about what remains in an open sweep, and in the sweeps to come
+abbrev pub questions_to_come : Option Phase → ℕ → List ℕ → ℕ
+questions_to_come phase remaining tabled = questions_of remaining + questions_in (drop (swept_in phase) tabled)
+
+-- what was told in an open sweep, and the regions of which it isn't told yet
+abbrev pub told_in : List Table → Option Phase → List (ℕ × ℕ)
+told_in tables (Some (Regions sweep)) = (table_at tables sweep).told
+told_in tables phase = []
+
+abbrev pub left_in : List Table → Option Phase → List ℕ
+left_in tables (Some (Regions sweep)) = (table_at tables sweep).left
+left_in tables phase = []
+
+-- how many of these the last question was about
+abbrev pub asked_in : List Table → Option Phase → ℕ
+asked_in tables (Some (Regions sweep)) = (table_at tables sweep).asked
+asked_in tables phase = 0
+
+abbrev pub questions_by : Option Phase → List Table → ℕ
+questions_by phase tables = questions_to_come phase (length (left_in tables phase)) (map (λ (t : Table). length t.order) tables)
+
+-- the table of a sweep: what should be noted is, if it is complete; in its sweep each of its regions either is told or is left to be told, and else nothing is told
+pub record IsTable (sweep : Sweep) (s : State) (t : Table) (phase : Option Phase) : Type 0 where
+  pub noted : IsTrue t.complete → AreNoted sweep s t.order
+  pub whole : phase ≡ Some (Regions sweep) → IsTrue t.complete → keys_of t.told ++ t.left ≡ keys_of t.order
+  pub idle : (phase ≡ Some (Regions sweep) → ⊥) → IsUntold t
+  pub lacking : t.complete ≡ false → IsUntold t
+
+-- the tables of all sweeps
+pub record AreTables (s : State) (tables : List Table) (phase : Option Phase) : Type 0 where
+  pub each : (sweep : Sweep) → IsTable sweep s (table_at tables sweep) phase
+  pub count : length tables ≡ 7
+
+-- the invariant of a machine: its lists have room, and there is a table for each sweep
+pub record IsInOrder (s : State) (walk : Walk) (regions : List Table) (phase : Option Phase) : Type 0 where
   pub room : HaveRoom (settles_in phase) s walk
   pub room_off : HasRoomOff (settles_in phase) walk
-  pub keeps : HasRoomToKeep s walk regions
-  pub noted : IsTrue regions.complete → AreNoted s regions.order
-  pub during : (regions.left ≡ []) ⊎ ((phase ≡ Some Objects) × (asked ≡ 0) × IsTrue regions.complete)
-  pub by_regions : phase ≡ Some Objects → IsTrue regions.complete → walk.left ≡ []
+  pub tables : AreTables s regions phase
+
+-- what a sweep is about is asked about item by item only if not all of it is noted
+abbrev pub Lacks : Option Phase → List Table → Type 0
+Lacks phase tables = (sweep : Sweep) → phase ≡ Some (swept sweep) → (table_at tables sweep).complete ≡ false
+
+-- in a sweep no question about items is open
+abbrev pub AsksNone : Option Phase → ℕ → Type 0
+AsksNone (Some (Regions sweep)) asked = asked ≡ 0
+AsksNone phase asked = Unit {0}
+
+-- only the table of one sweep changes
+pub record Changes (sweep : Sweep) (old new : List Table) : Type 0 where
+  pub others : (other : Sweep) → (other ≡ sweep → ⊥) → table_at new other ≡ table_at old other
+  pub count : length new ≡ length old
+
+-- a table to which all is noted again
+pub record IsRenewed (sweep : Sweep) (s : State) (t : Table) : Type 0 where
+  pub complete : IsTrue t.complete
+  pub noted : AreNoted sweep s t.order
+  pub few : length t.order ≤ most_of sweep s
+  pub untold : IsUntold t
+
+-- some tables of sweeps that ask about regions are such, and the others the same
+pub record AreRenewed (by : By) (s : State) (old new : List Table) : Type 0 where
+  pub each : (sweep : Sweep) → (table_at new sweep ≡ table_at old sweep) ⊎ (IsTrue (is_by sweep by) × IsRenewed sweep s (table_at new sweep))
+  pub count : length new ≡ length old
+
+-- what was told in the sweep before a phase
+abbrev pub told_for : List Table → Phase → List (ℕ × ℕ)
+told_for tables ShortCleanups = (table_at tables sweeps.ShortCleanups).told
+told_for tables ShortTargets = (table_at tables sweeps.ShortTargets).told
+told_for tables Objects = (table_at tables sweeps.Objects).told
+told_for tables LongTargets = (table_at tables sweeps.LongTargets).told
+told_for tables ShortHolders = (table_at tables sweeps.ShortHolders).told
+told_for tables LongHolders = (table_at tables sweeps.LongHolders).told
+told_for tables LongCleanups = (table_at tables sweeps.LongCleanups).told
+told_for tables phase = []
+
+-- the tables when a phase begins: that of the sweep before it is told, and the others are untold
+pub record AreReady (s : State) (tables : List Table) (phase : Phase) : Type 0 where
+  pub told : (sweep : Sweep) → phase ≡ swept sweep → IsTold sweep s (table_at tables sweep)
+  pub noted : (sweep : Sweep) → IsTrue (table_at tables sweep).complete → AreNoted sweep s (table_at tables sweep).order
+  pub untold : (sweep : Sweep) → (phase ≡ swept sweep → ⊥) → IsUntold (table_at tables sweep)
+  pub count : length tables ≡ 7
+
+-- the tables have the same regions, and are as complete
+pub record AreAlike (old new : List Table) : Type 0 where
+  pub complete : (sweep : Sweep) → (table_at new sweep).complete ≡ (table_at old sweep).complete
+  pub order : (sweep : Sweep) → (table_at new sweep).order ≡ (table_at old sweep).order
+  pub count : length new ≡ length old
+
+-- the tables have no more regions than before, and are as complete
+pub record AreNoMore (old new : List Table) : Type 0 where
+  pub complete : (sweep : Sweep) → (table_at new sweep).complete ≡ (table_at old sweep).complete
+  pub fewer : (sweep : Sweep) → length (table_at new sweep).order ≤ length (table_at old sweep).order
+
+-- a sweep has a region that it isn't told of yet, and another phase asks something about the first remaining item
+abbrev pub HasAsk : Phase → List Item → List ℕ → Type 0
+HasAsk (Regions sweep) items regions = 0 < length regions
+HasAsk phase items regions = (item : Item) × (slice_get items 0 ≡ Some item) × IsTrue (is_some (asks phase item))
+
+-- nothing is listed in a sweep; before two of them the marks were made whole
+abbrev pub resumed : Walk → Walk
+resumed walk = record { kept = []; left = []; aside = []; off = none_off; room = walk.other; other = walk.room; off_room = walk.off_room }
+
+abbrev pub emptied : Sweep → Walk → Walk
+emptied sweeps.ShortCleanups walk = resumed walk
+emptied sweeps.LongTargets walk = resumed walk
+emptied sweep walk = record walk { kept = []; left = [] }
 
 -- the phases that follow on making the marks whole, or on a round of it
 abbrev pub follows_settling : Phase → Bool
 follows_settling (KeysAgain moment) = true
 follows_settling (Holders moment) = true
 follows_settling (Values moment) = true
-follows_settling ShortCleanups = true
+follows_settling (Regions sweeps.ShortCleanups) = true
 follows_settling Again = true
 follows_settling LateAgain = true
-follows_settling LongTargets = true
+follows_settling (Regions sweeps.LongTargets) = true
 follows_settling phase = false
 
 -- the same with further registrations and links

@@ -13,7 +13,7 @@ use Rattle.fz_pass.specs.Places.{StandApart, written_at, is_held}
 use Rattle.fz_finalizers.specs.declared.cleanups.Attached.{Attached}
 use Rattle.fz_finalizers.specs.States.{State}
 use Rattle.fz_machine.specs.declared.question.Ask.{Ask}
-use Rattle.fz_machine.specs.declared.question.Ask.TheVariants.{IsMarked, MarkChildren, MarkOthers, Mark, MarkAlone, Clear, IsHolderMarked, MarkValue, Marks as AskMarks}
+use Rattle.fz_machine.specs.declared.question.Ask.TheVariants.{IsMarked, MarkChildren, MarkOthers, Mark, MarkAlone, Clear, IsHolderMarked, Live, MarkValue, Marks as AskMarks}
 
 pub record Graph : Type 0 where
   pub objects : Map Object  -- by address
@@ -35,7 +35,8 @@ MayAsk MarkAlone object g = CanMark g object × IsLastToMark g.objects g.marked 
 MayAsk Clear word g = Unit {0}
 MayAsk IsHolderMarked word g = Unit {0}
 MayAsk MarkValue word g = IsClosed g.objects g.marked
-MayAsk AskMarks region g = ⊥  -- no item is asked about by this: `IsHonestWord` has its answers
+MayAsk AskMarks region g = ⊥  -- no item is asked about by these: `IsHonestWord` has their answers
+MayAsk Live region g = ⊥
 
 -- if nothing is asked, nothing is required
 abbrev pub MayBeAsked : Option Ask → ℕ → Graph → Type 0
@@ -59,21 +60,30 @@ Answers Exact place value IsHolderMarked word old answer new = (answer ≡ is_he
 Answers Exact place value MarkValue word old answer new =
     Gains Exact old new (IsOfValue value old.objects word) × (IsFalse answer → (a : ℕ) → IsTrue (new.marked a) → IsTrue (old.marked a))
 Answers Exact place value AskMarks region old answer new = ⊥
+Answers Exact place value Live region old answer new = ⊥
 
 -- the host is bound only if the question may be asked; if nothing is asked, nothing changes
 abbrev pub IsHonest : Type 0 → (ℕ → Option ℕ) → (Map Object → ℕ → Option ℕ) → Option Ask → ℕ → Graph → Bool → Graph → Type 0
 IsHonest Exact place value (Some ask) subject old answer new = MayAsk ask subject old → Answers Exact place value ask subject old answer new
 IsHonest Exact place value None subject old answer new = new ≡ old
 
--- what an honest host answers about a region: for each object that begins at one of its places, whether it is marked; for other places, anything
-abbrev pub IsHonestWord : Graph → ℕ → ℕ → Type 0
-IsHonestWord g region word = (place : ℕ) → place < 64 → IsTrue (contains_key g.objects (region + 16 * place)) → has_bit word place ≡ g.marked (region + 16 * place)
+-- what the bit of a place says: whether the object that begins there is marked; to `Live`, whether the object that contains the word there is, as for a link
+abbrev pub is_told : (ℕ → Option ℕ) → Ask → Graph → ℕ → Bool
+is_told place Live g n = is_held place g.objects g.marked n
+is_told place ask g n = g.marked n
 
--- the same about regions, with a word for each
-abbrev pub AreHonestWords : Graph → List (ℕ × ℕ) → List ℕ → Type 0
-AreHonestWords g [] words = Unit {0}
-AreHonestWords g (r ∷ regions) [] = Unit {0}
-AreHonestWords g (r ∷ regions) (word ∷ words) = IsHonestWord g r.0 word × AreHonestWords g regions words
+-- what an honest host answers about a region, in a word: the truth about the places that are asked for; for other places, anything
+abbrev pub IsHonestWord : (ℕ → Option ℕ) → Ask → (ℕ → Type 0) → Graph → ℕ → ℕ → Type 0
+IsHonestWord place ask IsAskedFor g region word = (i : ℕ) → i < 64 → IsAskedFor (region + 16 * i) → has_bit word i ≡ is_told place ask g (region + 16 * i)
+
+-- a word that is true of all places
+abbrev pub IsTrueWord : (ℕ → Option ℕ) → Ask → Graph → ℕ → ℕ → Type 0
+IsTrueWord place ask g region word = (i : ℕ) → i < 64 → has_bit word i ≡ is_told place ask g (region + 16 * i)
+
+-- the same of words that were told, each of a region
+abbrev pub AreHonestWords : (ℕ → Option ℕ) → Ask → (ℕ → Type 0) → Graph → List (ℕ × ℕ) → Type 0
+AreHonestWords place ask IsAskedFor g [] = Unit {0}
+AreHonestWords place ask IsAskedFor g (r ∷ told) = IsHonestWord place ask IsAskedFor g r.0 r.1 × AreHonestWords place ask IsAskedFor g told
 
 -- a host without ephemerons has no values
 abbrev pub no_value : Map Object → ℕ → Option ℕ

@@ -1,26 +1,21 @@
 -- What holds of a pass whatever the host answers: it ends, and consists of calls of the finalizers.
 -- code: fz_machine/src/law.rt
-use Rattle.std.specs.Prelude.{◌≡◌, ℕ, suc, ◌+◌, ◌*◌, ◌≤◌, ◌<◌, Bool, List, length, Some}
+use Rattle.std.specs.Prelude.{◌≡◌, ℕ, suc, ◌+◌, ◌*◌, ◌≤◌, Bool, List, length, Some}
 use Rattle.std.specs.FinMap.{len}
 use Rattle.fz_finalizers.specs.Promises.{Past, IsReached}
 use Rattle.fz_finalizers.specs.States.{State}
 use Rattle.fz_machine.specs.declared.pass.Next.{Next}
-use Rattle.fz_machine.specs.declared.phase.Phase.TheVariants.{Objects}
+use Rattle.fz_machine.specs.declared.phase.Phase.{Phase}
 use Rattle.fz_machine.specs.declared.question.Question.{Question}
-use Rattle.fz_machine.specs.declared.question.TheConstants.{BATCH}
-use Rattle.fz_machine.specs.Going.{ephemerons_in}
-use Rattle.fz_machine.specs.Regions.{items_in}
-use Rattle.fz_machine.specs.Machines.{Machine, AsksRegions, IsBegunFrom, GoesTo, IsAbandoned, IsTold, IsWorked, PassesOver}
+use Rattle.fz_machine.specs.Going.{ephemerons_in, questions_in}
+use Rattle.fz_machine.specs.Machines.{Machine, Heard, Answers, Words, AsksRegions, IsBegunFrom, GoesTo, IsAbandoned, IsTold, IsWorked, PassesOver}
 
--- how many items the last question covers: those that it was about, or those in the regions that it was about
-abbrev pub covered : Machine → ℕ
-covered m = m.asked + length (items_in m.finalizers.state m.regions)
-
--- this many answers were processed since a pass began, for each question no more than it asked for; meanwhile workers take and finish
--- entries, and the host tells keys
+-- this many answers were processed since a pass began, for each question about items no more than it asked for; meanwhile words about regions are told, workers take and
+-- finish entries, and the host tells keys
 pub data Hears (begun : Machine) : Machine → ℕ → Type 0 where
   Begun : Hears begun begun 0
-  Goes : {m new : Machine} {next : Next} {n : ℕ} (answers : List Bool) → length answers ≤ covered m → GoesTo m answers new next → Hears begun m n → Hears begun new (n + length answers)
+  Goes : {m new : Machine} {next : Next} {n : ℕ} (answers : List Bool) → length answers ≤ m.asked → GoesTo m (Answers answers) new next → Hears begun m n → Hears begun new (n + length answers)
+  Learns : {m new : Machine} {next : Next} {n : ℕ} (words : List ℕ) → GoesTo m (Words words) new next → Hears begun m n → Hears begun new n
   Meanwhile : {m new : Machine} {n : ℕ} → IsWorked m new → Hears begun m n → Hears begun new n
   Told : {m new : Machine} {n : ℕ} (key : ℕ) → IsTold key m new → Hears begun m n → Hears begun new n
 
@@ -40,14 +35,14 @@ PassesEnd = (from : ℕ) (old begun m : Machine) (n : ℕ) → IsBegunFrom from 
 -- entries, and the host tells keys
 pub data HearsMarks (begun : Machine) : Machine → ℕ → Type 0 where
   Opened : HearsMarks begun begun 0
-  Marks : {m new : Machine} {n : ℕ} (question : Question) → m.phase ≡ Some Objects → AsksRegions m Objects question → PassesOver m new → HearsMarks begun m n → HearsMarks begun new (suc n)
-  Others : {m new : Machine} {next : Next} {n : ℕ} (answers : List Bool) → GoesTo m answers new next → HearsMarks begun m n → HearsMarks begun new n
+  Marks : {m new : Machine} {n : ℕ} (phase : Phase) (question : Question) → m.phase ≡ Some phase → AsksRegions m phase question → PassesOver m new → HearsMarks begun m n → HearsMarks begun new (suc n)
+  Others : {m new : Machine} {next : Next} {n : ℕ} (heard : Heard) → GoesTo m heard new next → HearsMarks begun m n → HearsMarks begun new n
   Beside : {m new : Machine} {n : ℕ} → IsWorked m new → HearsMarks begun m n → HearsMarks begun new n
   Keyed : {m new : Machine} {n : ℕ} (key : ℕ) → IsTold key m new → HearsMarks begun m n → HearsMarks begun new n
 
--- at most one question for each 64 regions, and one for those left over
+-- at most one question for each 64 regions of a sweep, and one for those left over
 abbrev pub RegionQuestionsEnd : Type 0
-RegionQuestionsEnd = (from : ℕ) (old begun m : Machine) (n : ℕ) → IsBegunFrom from old begun → HearsMarks begun m n → n * BATCH < old.tabled + BATCH
+RegionQuestionsEnd = (from : ℕ) (old begun m : Machine) (n : ℕ) → IsBegunFrom from old begun → HearsMarks begun m n → n ≤ questions_in old.tabled
 
 -- calls lead to the state, and they take and finish no more than the given history
 pub record IsCalled (past : Past) (s : State) : Type 0 where
@@ -59,7 +54,7 @@ pub record IsCalled (past : Past) (s : State) : Type 0 where
 -- calls lead through a pass, whatever keys are told, and to the state after one is abandoned
 pub data Proceeds (old new : Machine) : Type 0 where
   Opens : (from : ℕ) → IsBegunFrom from old new → Proceeds old new
-  Answered : (answers : List Bool) (next : Next) → GoesTo old answers new next → Proceeds old new
+  Hearing : (heard : Heard) (next : Next) → GoesTo old heard new next → Proceeds old new
   Tells : (key : ℕ) → IsTold key old new → Proceeds old new
   Abandons : IsAbandoned old new → Proceeds old new
 

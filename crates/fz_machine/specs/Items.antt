@@ -1,7 +1,7 @@
 -- The items that phases process: links, ephemerons, registrations and cleanups.
 -- code: fz_machine/src/item.rt, listing.rt
-use Rattle.std.specs.Prelude.{◌≡◌, ℕ, zero, suc, ◌+◌, ◌*◌, ◌^◌, false, if◌then◌else◌, List, ◌++◌, filter, map, nat_eq, nat_le, All, refl}
-use Rattle.std.specs.Coded.{Coded, code_by, coded×, coded_ℕ}
+use Rattle.std.specs.Prelude.{◌≡◌, ℕ, zero, suc, ◌+◌, ◌*◌, ◌^◌, Bool, false, not, ◌&&◌, if◌then◌else◌, List, [], ◌++◌, filter, map, nat_eq, nat_le, All, refl}
+use Rattle.std.specs.Coded.{Coded, code_by, coded×, coded_ℕ, coded_bool}
 use Rattle.std.specs.List.{IsDistinct}
 use Rattle.std.specs.List.Sorted.{IsPermutation, IsNonDecreasingBy}
 use Rattle.std.specs.Map.{keys_of}
@@ -19,48 +19,66 @@ use Rattle.fz_finalizers.specs.declared.kinds.Kind.TheVariants.{Normal, IgnoreSe
 use Rattle.fz_finalizers.specs.Cleanups.{AreDue, is_when}
 use Rattle.fz_finalizers.specs.Kinds.{of_table}
 use Rattle.fz_machine.specs.declared.item.Item.{Item}
+use Rattle.fz_machine.specs.Regions.{is_marked, is_unmarked}
 
--- a link, or an ephemeron with its word and its key
-abbrev pub of_link : ℕ × ℕ → Item
-of_link e = record { object = e.1; word = e.0; kind = Normal; turn = 0 }
+-- a link, or an ephemeron with its word and its key; and whether what a phase would ask about it is known to be false
+abbrev pub of_link : Bool → ℕ × ℕ → Item
+of_link known e = record { object = e.1; word = e.0; kind = Normal; turn = 0; known = known }
 
 -- a registration of another kind than `Unreachable`, and one of kind `Unreachable`
-abbrev pub of_other : ℕ × Registration → Item
-of_other e = record { object = e.0; word = 0; kind = of_table false e.1.kind; turn = e.1.rank }
+abbrev pub of_other : Bool → ℕ × Registration → Item
+of_other known e = record { object = e.0; word = 0; kind = of_table false e.1.kind; turn = e.1.rank; known = known }
 
-abbrev pub of_late : ℕ × Registration → Item
-of_late e = record { object = e.0; word = 0; kind = Unreachable; turn = 256 + e.1.rank }
+abbrev pub of_late : Bool → ℕ × Registration → Item
+of_late known e = record { object = e.0; word = 0; kind = Unreachable; turn = 256 + e.1.rank; known = known }
 
 -- a registration with its flag
-abbrev pub of_stored : ℕ × Stored → Item
-of_stored e = if e.1.unreachable then of_late (plain e) else of_other (plain e)
+abbrev pub of_stored : Bool → ℕ × Stored → Item
+of_stored known e = if e.1.unreachable then of_late known (plain e) else of_other known (plain e)
 
 -- a cleanup, with its number
-abbrev pub of_cleanup : ℕ × Attached → Item
-of_cleanup e = record { object = e.1.object; word = e.0; kind = Normal; turn = e.1.cleanup.rank }
+abbrev pub of_cleanup : Bool → ℕ × Attached → Item
+of_cleanup known e = record { object = e.1.object; word = e.0; kind = Normal; turn = e.1.cleanup.rank; known = known }
 
 -- these are the entries of a map, each once
 abbrev pub AreEntriesOf : {X : Type 0} → Map X → List (ℕ × X) → Type 0
 AreEntriesOf m es = (from_entries es ≡ m) × IsDistinct nat_eq (keys_of es)
 
--- the items are the links
-abbrev pub AreLinks : Map ℕ → List Item → Type 0
-AreLinks links items = (es : List (ℕ × ℕ)) × AreEntriesOf links es × (items ≡ map of_link es)
+-- the target of a link, which is the key of an ephemeron, and its word
+abbrev pub target_of : ℕ × ℕ → ℕ
+target_of e = e.1
+
+abbrev pub word_of : ℕ × ℕ → ℕ
+word_of e = e.0
+
+-- what the sweep about words, or about targets, notes of a link
+abbrev pub link_number : Bool → ℕ × ℕ → ℕ
+link_number words = if words then word_of else target_of
+
+-- the items are the links whose targets, or words, aren't told marked
+abbrev pub AreLinks : (ℕ × ℕ → ℕ) → List (ℕ × ℕ) → Map ℕ → List Item → Type 0
+AreLinks number told links items =
+    (es : List (ℕ × ℕ)) × AreEntriesOf links es × (items ≡ map (λ e. of_link (is_unmarked told (number e)) e) (filter (λ e. not (is_marked told (number e))) es))
 
 -- the items are the ephemerons of both kinds: the short ones, then the long ones
 abbrev pub AreEphemerons : Ephemerons → List Item → Type 0
-AreEphemerons ephemerons items = (shorts : List Item) × (longs : List Item) × AreLinks ephemerons.short shorts × AreLinks ephemerons.long longs × (items ≡ shorts ++ longs)
+AreEphemerons ephemerons items = (shorts : List Item) × (longs : List Item) × AreLinks target_of [] ephemerons.short shorts × AreLinks target_of [] ephemerons.long longs × (items ≡ shorts ++ longs)
 
--- the items are the registrations from this number on, each with its flag
-abbrev pub AreObjects : ℕ → Map Registration → Set → List Item → Type 0
-AreObjects from registrations late items =
+-- the items are the registrations from this number on whose objects aren't told marked, each with its flag
+abbrev pub AreObjects : ℕ → List (ℕ × ℕ) → Map Registration → Set → List Item → Type 0
+AreObjects from told registrations late items =
     (es : List (ℕ × Stored)) × AreEntriesOf registrations (map plain es) × All (λ (e : ℕ × Stored). e.1.unreachable ≡ contains late e.0) es
-    × (items ≡ map of_stored (filter (λ (e : ℕ × Stored). nat_le from e.1.number) es))
+    × (items ≡ map (λ (e : ℕ × Stored). of_stored (is_unmarked told e.0) e) (filter (λ (e : ℕ × Stored). nat_le from e.1.number && not (is_marked told e.0)) es))
 
--- the items are the cleanups of this moment from this number on, in order
-abbrev pub AreCleanups : ℕ → LinkKind → Map Attached → List Item → Type 0
-AreCleanups from when cleanups items =
-    (cs : List (ℕ × Attached)) × AreDue (λ (c : Attached). is_when when c.cleanup.when) (retain_keys cleanups (nat_le from)) cs × (items ≡ map of_cleanup cs)
+-- the items are the cleanups of this moment from this number on whose objects aren't told marked, in order
+abbrev pub AreCleanups : ℕ → List (ℕ × ℕ) → LinkKind → Map Attached → List Item → Type 0
+AreCleanups from told when cleanups items =
+    (cs : List (ℕ × Attached)) × AreDue (λ (c : Attached). is_when when c.cleanup.when && not (is_marked told c.object)) (retain_keys cleanups (nat_le from)) cs
+    × (items ≡ map (λ (e : ℕ × Attached). of_cleanup (is_unmarked told e.1.object) e) cs)
+
+-- a cleanup, with its number, that is of this moment, from this number on, and whose object isn't told marked
+abbrev pub is_listed : ℕ → List (ℕ × ℕ) → LinkKind → ℕ × Attached → Bool
+is_listed from told when e = nat_le from e.0 && (is_when when e.1.cleanup.when && not (is_marked told e.1.object))
 
 -- an item's sort key: position in queue order, then address
 abbrev pub place_of : Item → ℕ
@@ -93,5 +111,5 @@ kind_code = code_by ℕ coded_ℕ to back same
 
 abbrev pub item_code : Coded Item
 item_code =
-    code_by (ℕ × (ℕ × (Kind × ℕ))) (coded× coded_ℕ (coded× coded_ℕ (coded× kind_code coded_ℕ))) (λ i. (i.object, (i.word, (i.kind, i.turn))))
-    (λ p. record { object = p.0; word = p.1.0; kind = p.1.1.0; turn = p.1.1.1 }) (λ _. refl)
+    code_by (ℕ × (ℕ × (Kind × (ℕ × Bool)))) (coded× coded_ℕ (coded× coded_ℕ (coded× kind_code (coded× coded_ℕ coded_bool)))) (λ i. (i.object, (i.word, (i.kind, (i.turn, i.known)))))
+    (λ p. record { object = p.0; word = p.1.0; kind = p.1.1.0; turn = p.1.1.1.0; known = p.1.1.1.1 }) (λ _. refl)

@@ -1,8 +1,8 @@
 pub mod Asks
+pub mod Regions
 pub mod Items
 pub mod Off
 pub mod Phases
-pub mod Regions
 pub mod Walks
 pub mod Steps
 pub mod Going

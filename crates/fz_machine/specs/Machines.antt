@@ -1,17 +1,18 @@
 -- The model of finalizers whose pass asks questions.
 -- code: fz_machine/src/machine.rt, pass.rt
-use Rattle.std.specs.Prelude.{◌≡◌, ◌⊎◌, ℕ, ◌+◌, ◌-◌, ◌<◌, ◌≤◌, min, zero, suc, Bool, false, List, [], ◌++◌, length, take, Option, Some, None, is_some, All, IsTrue, refl}
+use Rattle.std.specs.Prelude.{◌≡◌, ◌⊎◌, ℕ, ◌+◌, ◌-◌, ◌<◌, ◌≤◌, min, zero, suc, Bool, true, false, List, [], ◌∷◌, ◌++◌, length, take, zip, slice_index_or, Option, Some, None, is_some, All, IsTrue, refl}
 use Rattle.std.specs.Coded.{Coded, code_by, coded×, coded_ℕ, coded_option, coded_list, coded_bool}
-use Rattle.std.specs.FinMap.{len}
-use Rattle.std.specs.Map.{keys_of}
 use Rattle.fz_model.specs.declared.answers.Entry.{Entry}
+use Rattle.fz_model.specs.declared.kinds.LinkKind.{LinkKind}
+use Rattle.fz_model.specs.declared.kinds.LinkKind.TheVariants.{Short, Long}
 use Rattle.fz_finalizers.specs.States.{State, View, view_code, waiting}
 use Rattle.fz_machine.specs.declared.phase.Moment.{Moment}
 use Rattle.fz_machine.specs.declared.phase.Moment.TheVariants.{First, Led, Picked, Last}
 use Rattle.fz_machine.specs.declared.phase.Phase.{Phase}
-use Rattle.fz_machine.specs.declared.phase.Phase.TheVariants.{Keys, KeysAgain, Holders, Values, ShortCleanups, ShortTargets, ShortWords, ShortKeys, ShortKeyWords, Objects, Children, Again, Picks, LateAgain, LatePicks, LongTargets, LongWords, LongKeys, LongKeyWords, ShortHolders, LongHolders, ShortKeyHolders, LongKeyHolders, LongCleanups}
-use Rattle.fz_machine.specs.declared.item.Item.{Item}
-use Rattle.fz_machine.specs.declared.question.Ask.TheVariants.{Marks}
+use Rattle.fz_machine.specs.declared.phase.Phase.TheVariants.{Keys, KeysAgain, Holders, Values, Regions, ShortCleanups, ShortTargets, ShortWords, ShortKeys, ShortKeyWords, Objects, Children, Again, Picks, LateAgain, LatePicks, LongTargets, LongWords, LongKeys, LongKeyWords, ShortHolders, LongHolders, ShortKeyHolders, LongKeyHolders, LongCleanups}
+use Rattle.fz_machine.specs.declared.phase.Sweep.{Sweep}
+use Rattle.fz_machine.specs.declared.phase.Sweep.TheVariants as sweeps
+use Rattle.fz_machine.specs.declared.machine.By.{By}
 use Rattle.fz_machine.specs.declared.question.Question.{Question}
 use Rattle.fz_machine.specs.declared.question.TheConstants.{BATCH}
 use Rattle.fz_machine.specs.declared.pass.Next.{Next}
@@ -19,10 +20,10 @@ use Rattle.fz_machine.specs.declared.pass.Step.{Step}
 use Rattle.fz_machine.specs.declared.pass.Step.TheVariants as written
 use Rattle.fz_machine.specs.declared.pass.Next.TheVariants.{Asks, Ended}
 use Rattle.fz_finalizers.specs.Follows.{Event, Follows, Take, TakeFinished, Finish, next_pass}
-use Rattle.fz_machine.specs.Going.{going, to_process}
+use Rattle.fz_machine.specs.Going.{AreFewer, going, is_by, questions_to_come}
 use Rattle.fz_machine.specs.Off.{PutOff, TellsOff, none_off}
-use Rattle.fz_machine.specs.Phases.{Scope, scope_by}
-use Rattle.fz_machine.specs.Regions.{items_in, place_in}
+use Rattle.fz_machine.specs.Phases.{swept, sweep_ask}
+use Rattle.fz_machine.specs.Regions.{index_of, most_of, place_in}
 use Rattle.fz_machine.specs.Steps.{Begins, Going, GoesOn, IsQuestion, steps}
 use Rattle.fz_machine.specs.Walks.{Walk, walk_code}
 
@@ -33,11 +34,12 @@ pub record Machine : Type 0 where
   pub asked : ℕ  -- how many items the last question was about
   pub before : ℕ  -- how many entries had been queued when the pass began
   pub from : ℕ  -- the least number of the registrations and cleanups that the pass looks at
-  pub regions : List (ℕ × ℕ)  -- the regions that the last question was about, each with the bits of its noted places
-  pub by_regions : Bool  -- whether it was opened with regions: if not, no object is noted
-  pub noted : Bool  -- whether each registered object is noted: if so, a pass asks about regions
-  pub tabled : ℕ  -- how many regions there are
-  pub remaining : ℕ  -- how many of them remain while registered objects are processed by regions
+  pub told : List (ℕ × ℕ)  -- what was told of regions in an open sweep: a word for each
+  pub remaining : ℕ  -- of how many regions it isn't told yet
+  pub regions : List ℕ  -- the regions that the last question was about
+  pub by : By  -- which sweeps ask about regions: if one doesn't, nothing is noted for it
+  pub noted : List Bool  -- for each sweep, whether all that it is about is noted: if so, it asks about regions, and the phase behind it about no items
+  pub tabled : List ℕ  -- for each sweep, how many regions there are
 
 abbrev moment_code : Coded Moment
 moment_code = code_by ℕ coded_ℕ to back same
@@ -60,63 +62,89 @@ moment_code = code_by ℕ coded_ℕ to back same
     same Picked = refl
     same Last = refl
 
--- a phase is told by a number, and by its moment if it has one
-abbrev phase_code : Coded Phase
-phase_code = code_by (ℕ × Moment) (coded× coded_ℕ moment_code) to (λ p. back p.1 p.0) same
+abbrev sweep_code : Coded Sweep
+sweep_code = code_by ℕ coded_ℕ index_of back same
   where
-    to : Phase → ℕ × Moment
-    to (Keys moment) = (0, moment)
-    to (KeysAgain moment) = (1, moment)
-    to (Holders moment) = (2, moment)
-    to (Values moment) = (3, moment)
-    to ShortCleanups = (4, First)
-    to ShortTargets = (5, First)
-    to ShortWords = (6, First)
-    to ShortKeys = (7, First)
-    to ShortKeyWords = (8, First)
-    to Objects = (9, First)
-    to Children = (10, First)
-    to Again = (11, First)
-    to Picks = (12, First)
-    to LateAgain = (13, First)
-    to LatePicks = (14, First)
-    to LongTargets = (15, First)
-    to LongWords = (16, First)
-    to LongKeys = (17, First)
-    to LongKeyWords = (18, First)
-    to ShortHolders = (19, First)
-    to LongHolders = (20, First)
-    to ShortKeyHolders = (21, First)
-    to LongKeyHolders = (22, First)
-    to LongCleanups = (23, First)
+    back : ℕ → Sweep
+    back zero = sweeps.ShortCleanups
+    back (suc zero) = sweeps.ShortTargets
+    back (suc (suc zero)) = sweeps.Objects
+    back (suc (suc (suc zero))) = sweeps.LongTargets
+    back (suc (suc (suc (suc zero)))) = sweeps.ShortHolders
+    back (suc (suc (suc (suc (suc zero))))) = sweeps.LongHolders
+    back (suc (suc (suc (suc (suc (suc n)))))) = sweeps.LongCleanups
 
-    back : Moment → ℕ → Phase
-    back moment zero = Keys moment
-    back moment (suc zero) = KeysAgain moment
-    back moment (suc (suc zero)) = Holders moment
-    back moment (suc (suc (suc zero))) = Values moment
-    back moment (suc (suc (suc (suc zero)))) = ShortCleanups
-    back moment (suc (suc (suc (suc (suc zero))))) = ShortTargets
-    back moment (suc (suc (suc (suc (suc (suc zero)))))) = ShortWords
-    back moment (suc (suc (suc (suc (suc (suc (suc zero))))))) = ShortKeys
-    back moment (suc (suc (suc (suc (suc (suc (suc (suc zero)))))))) = ShortKeyWords
-    back moment (suc (suc (suc (suc (suc (suc (suc (suc (suc zero))))))))) = Objects
-    back moment (suc (suc (suc (suc (suc (suc (suc (suc (suc (suc zero)))))))))) = Children
-    back moment (suc (suc (suc (suc (suc (suc (suc (suc (suc (suc (suc zero))))))))))) = Again
-    back moment (suc (suc (suc (suc (suc (suc (suc (suc (suc (suc (suc (suc zero)))))))))))) = Picks
-    back moment (suc (suc (suc (suc (suc (suc (suc (suc (suc (suc (suc (suc (suc zero))))))))))))) = LateAgain
-    back moment (suc (suc (suc (suc (suc (suc (suc (suc (suc (suc (suc (suc (suc (suc zero)))))))))))))) = LatePicks
-    back moment (suc (suc (suc (suc (suc (suc (suc (suc (suc (suc (suc (suc (suc (suc (suc zero))))))))))))))) = LongTargets
-    back moment (suc (suc (suc (suc (suc (suc (suc (suc (suc (suc (suc (suc (suc (suc (suc (suc zero)))))))))))))))) = LongWords
-    back moment (suc (suc (suc (suc (suc (suc (suc (suc (suc (suc (suc (suc (suc (suc (suc (suc (suc zero))))))))))))))))) = LongKeys
-    back moment (suc (suc (suc (suc (suc (suc (suc (suc (suc (suc (suc (suc (suc (suc (suc (suc (suc (suc zero)))))))))))))))))) = LongKeyWords
-    back moment (suc (suc (suc (suc (suc (suc (suc (suc (suc (suc (suc (suc (suc (suc (suc (suc (suc (suc (suc zero))))))))))))))))))) = ShortHolders
-    back moment (suc (suc (suc (suc (suc (suc (suc (suc (suc (suc (suc (suc (suc (suc (suc (suc (suc (suc (suc (suc zero)))))))))))))))))))) = LongHolders
-    back moment (suc (suc (suc (suc (suc (suc (suc (suc (suc (suc (suc (suc (suc (suc (suc (suc (suc (suc (suc (suc (suc zero))))))))))))))))))))) = ShortKeyHolders
-    back moment (suc (suc (suc (suc (suc (suc (suc (suc (suc (suc (suc (suc (suc (suc (suc (suc (suc (suc (suc (suc (suc (suc zero)))))))))))))))))))))) = LongKeyHolders
-    back moment (suc (suc (suc (suc (suc (suc (suc (suc (suc (suc (suc (suc (suc (suc (suc (suc (suc (suc (suc (suc (suc (suc (suc n))))))))))))))))))))))) = LongCleanups
+    same : (s : Sweep) → back (index_of s) ≡ s
+    same sweeps.ShortCleanups = refl
+    same sweeps.ShortTargets = refl
+    same sweeps.Objects = refl
+    same sweeps.LongTargets = refl
+    same sweeps.ShortHolders = refl
+    same sweeps.LongHolders = refl
+    same sweeps.LongCleanups = refl
 
-    same : (p : Phase) → back (to p).1 (to p).0 ≡ p
+abbrev by_code : Coded By
+by_code = code_by (Bool × Bool) (coded× coded_bool coded_bool) (λ b. (b.marks, b.live)) (λ p. record { marks = p.0; live = p.1 }) (λ _. refl)
+
+-- a phase is told by a number, and by its moment or its sweep if it has one
+abbrev phase_code : Coded Phase
+phase_code = code_by (ℕ × (Moment × Sweep)) (coded× coded_ℕ (coded× moment_code sweep_code)) to (λ p. back p.1.0 p.1.1 p.0) same
+  where
+    to : Phase → ℕ × (Moment × Sweep)
+    to (Keys moment) = (0, (moment, sweeps.Objects))
+    to (KeysAgain moment) = (1, (moment, sweeps.Objects))
+    to (Holders moment) = (2, (moment, sweeps.Objects))
+    to (Values moment) = (3, (moment, sweeps.Objects))
+    to ShortCleanups = (4, (First, sweeps.Objects))
+    to ShortTargets = (5, (First, sweeps.Objects))
+    to ShortWords = (6, (First, sweeps.Objects))
+    to ShortKeys = (7, (First, sweeps.Objects))
+    to ShortKeyWords = (8, (First, sweeps.Objects))
+    to Objects = (9, (First, sweeps.Objects))
+    to Children = (10, (First, sweeps.Objects))
+    to Again = (11, (First, sweeps.Objects))
+    to Picks = (12, (First, sweeps.Objects))
+    to LateAgain = (13, (First, sweeps.Objects))
+    to LatePicks = (14, (First, sweeps.Objects))
+    to LongTargets = (15, (First, sweeps.Objects))
+    to LongWords = (16, (First, sweeps.Objects))
+    to LongKeys = (17, (First, sweeps.Objects))
+    to LongKeyWords = (18, (First, sweeps.Objects))
+    to ShortHolders = (19, (First, sweeps.Objects))
+    to LongHolders = (20, (First, sweeps.Objects))
+    to ShortKeyHolders = (21, (First, sweeps.Objects))
+    to LongKeyHolders = (22, (First, sweeps.Objects))
+    to LongCleanups = (23, (First, sweeps.Objects))
+    to (Regions sweep) = (24, (First, sweep))
+
+    back : Moment → Sweep → ℕ → Phase
+    back moment sweep zero = Keys moment
+    back moment sweep (suc zero) = KeysAgain moment
+    back moment sweep (suc (suc zero)) = Holders moment
+    back moment sweep (suc (suc (suc zero))) = Values moment
+    back moment sweep (suc (suc (suc (suc zero)))) = ShortCleanups
+    back moment sweep (suc (suc (suc (suc (suc zero))))) = ShortTargets
+    back moment sweep (suc (suc (suc (suc (suc (suc zero)))))) = ShortWords
+    back moment sweep (suc (suc (suc (suc (suc (suc (suc zero))))))) = ShortKeys
+    back moment sweep (suc (suc (suc (suc (suc (suc (suc (suc zero)))))))) = ShortKeyWords
+    back moment sweep (suc (suc (suc (suc (suc (suc (suc (suc (suc zero))))))))) = Objects
+    back moment sweep (suc (suc (suc (suc (suc (suc (suc (suc (suc (suc zero)))))))))) = Children
+    back moment sweep (suc (suc (suc (suc (suc (suc (suc (suc (suc (suc (suc zero))))))))))) = Again
+    back moment sweep (suc (suc (suc (suc (suc (suc (suc (suc (suc (suc (suc (suc zero)))))))))))) = Picks
+    back moment sweep (suc (suc (suc (suc (suc (suc (suc (suc (suc (suc (suc (suc (suc zero))))))))))))) = LateAgain
+    back moment sweep (suc (suc (suc (suc (suc (suc (suc (suc (suc (suc (suc (suc (suc (suc zero)))))))))))))) = LatePicks
+    back moment sweep (suc (suc (suc (suc (suc (suc (suc (suc (suc (suc (suc (suc (suc (suc (suc zero))))))))))))))) = LongTargets
+    back moment sweep (suc (suc (suc (suc (suc (suc (suc (suc (suc (suc (suc (suc (suc (suc (suc (suc zero)))))))))))))))) = LongWords
+    back moment sweep (suc (suc (suc (suc (suc (suc (suc (suc (suc (suc (suc (suc (suc (suc (suc (suc (suc zero))))))))))))))))) = LongKeys
+    back moment sweep (suc (suc (suc (suc (suc (suc (suc (suc (suc (suc (suc (suc (suc (suc (suc (suc (suc (suc zero)))))))))))))))))) = LongKeyWords
+    back moment sweep (suc (suc (suc (suc (suc (suc (suc (suc (suc (suc (suc (suc (suc (suc (suc (suc (suc (suc (suc zero))))))))))))))))))) = ShortHolders
+    back moment sweep (suc (suc (suc (suc (suc (suc (suc (suc (suc (suc (suc (suc (suc (suc (suc (suc (suc (suc (suc (suc zero)))))))))))))))))))) = LongHolders
+    back moment sweep (suc (suc (suc (suc (suc (suc (suc (suc (suc (suc (suc (suc (suc (suc (suc (suc (suc (suc (suc (suc (suc zero))))))))))))))))))))) = ShortKeyHolders
+    back moment sweep (suc (suc (suc (suc (suc (suc (suc (suc (suc (suc (suc (suc (suc (suc (suc (suc (suc (suc (suc (suc (suc (suc zero)))))))))))))))))))))) = LongKeyHolders
+    back moment sweep (suc (suc (suc (suc (suc (suc (suc (suc (suc (suc (suc (suc (suc (suc (suc (suc (suc (suc (suc (suc (suc (suc (suc zero))))))))))))))))))))))) = LongCleanups
+    back moment sweep (suc (suc (suc (suc (suc (suc (suc (suc (suc (suc (suc (suc (suc (suc (suc (suc (suc (suc (suc (suc (suc (suc (suc (suc n)))))))))))))))))))))))) = Regions sweep
+
+    same : (p : Phase) → back (to p).1.0 (to p).1.1 (to p).0 ≡ p
     same (Keys moment) = refl
     same (KeysAgain moment) = refl
     same (Holders moment) = refl
@@ -141,32 +169,84 @@ phase_code = code_by (ℕ × Moment) (coded× coded_ℕ moment_code) to (λ p. b
     same ShortKeyHolders = refl
     same LongKeyHolders = refl
     same LongCleanups = refl
+    same (Regions sweep) = refl
 
 abbrev pub machine_code : Coded Machine
 machine_code =
-    code_by (View × (Walk × (Option Phase × (ℕ × ((ℕ × ℕ) × (List (ℕ × ℕ) × (Bool × (Bool × (ℕ × ℕ))))))))) (coded× view_code (coded× walk_code (coded× (coded_option phase_code) (coded× coded_ℕ (coded× (coded× coded_ℕ coded_ℕ) (coded× (coded_list (coded× coded_ℕ coded_ℕ)) (coded× coded_bool (coded× coded_bool (coded× coded_ℕ coded_ℕ)))))))))
-    (λ m. (m.finalizers, (m.walk, (m.phase, (m.asked, ((m.before, m.from), (m.regions, (m.by_regions, (m.noted, (m.tabled, m.remaining))))))))))
-    (λ p. record { finalizers = p.0; walk = p.1.0; phase = p.1.1.0; asked = p.1.1.1.0; before = p.1.1.1.1.0.0; from = p.1.1.1.1.0.1; regions = p.1.1.1.1.1.0; by_regions = p.1.1.1.1.1.1.0; noted = p.1.1.1.1.1.1.1.0; tabled = p.1.1.1.1.1.1.1.1.0; remaining = p.1.1.1.1.1.1.1.1.1 }) (λ _. refl)
+    code_by (View × (Walk × (Option Phase × (ℕ × ((ℕ × ℕ) × (List (ℕ × ℕ) × (ℕ × (List ℕ × (By × (List Bool × List ℕ))))))))))
+    (coded× view_code (coded× walk_code (coded× (coded_option phase_code) (coded× coded_ℕ (coded× (coded× coded_ℕ coded_ℕ) (coded× (coded_list (coded× coded_ℕ coded_ℕ)) (coded× coded_ℕ (coded× (coded_list coded_ℕ) (coded× by_code (coded× (coded_list coded_bool) (coded_list coded_ℕ)))))))))))
+    (λ m. (m.finalizers, (m.walk, (m.phase, (m.asked, ((m.before, m.from), (m.told, (m.remaining, (m.regions, (m.by, (m.noted, m.tabled)))))))))))
+    (λ p. record { finalizers = p.0; walk = p.1.0; phase = p.1.1.0; asked = p.1.1.1.0; before = p.1.1.1.1.0.0; from = p.1.1.1.1.0.1; told = p.1.1.1.1.1.0; remaining = p.1.1.1.1.1.1.0; regions = p.1.1.1.1.1.1.1.0; by = p.1.1.1.1.1.1.1.1.0; noted = p.1.1.1.1.1.1.1.1.1.0; tabled = p.1.1.1.1.1.1.1.1.1.1 }) (λ _. refl)
 
--- the registrations and cleanups that an open pass looks at: by regions it comes to all registrations
-abbrev pub scope : Machine → Scope
-scope m = scope_by m.noted m.from
+-- a machine without regions
+abbrev pub by_none : By
+by_none = record { marks = false; live = false }
 
--- how many regions an open pass has still to process
-abbrev pub regions_left : Machine → ℕ
-regions_left m = to_process m.phase m.tabled m.remaining
+abbrev pub none_tabled : List ℕ
+none_tabled = 0 ∷ 0 ∷ 0 ∷ 0 ∷ 0 ∷ 0 ∷ 0 ∷ []
 
--- the regions of the last question are processed, as many as have a word
+-- a phase in progress, with what was told
+abbrev pub going_of : Machine → Going
+going_of m = going m.finalizers m.walk m.told
+
+-- whether all that a sweep is about is noted, and how many regions there are for it
+abbrev pub is_noted : Sweep → Machine → Bool
+is_noted sweep m = slice_index_or m.noted (index_of sweep) false
+
+abbrev pub tabled_for : Sweep → Machine → ℕ
+tabled_for sweep m = slice_index_or m.tabled (index_of sweep) 0
+
+-- how many questions about regions an open pass can still process
+abbrev pub questions_left : Machine → ℕ
+questions_left m = questions_to_come m.phase m.remaining m.tabled
+
+-- the words of a question about regions are processed: it isn't asked again
 abbrev pub PassesOver : Machine → Machine → Type 0
-PassesOver old new = regions_left new + min BATCH (length old.regions) ≤ regions_left old
+PassesOver old new = questions_left new < questions_left old
 
 -- the regions are those of before
 abbrev pub KeepsRegions : Machine → Machine → Type 0
-KeepsRegions old new = (new.by_regions ≡ old.by_regions) × (new.noted ≡ old.noted) × (new.tabled ≡ old.tabled)
+KeepsRegions old new = (new.by ≡ old.by) × (new.noted ≡ old.noted) × (new.tabled ≡ old.tabled)
 
--- all registered objects are noted again, in no more regions than there are of them
+-- the regions of a sweep are those of before; or there is one more, or no longer all is noted; or all is noted again, in no more regions than there are items
+abbrev pub Keeps : Machine → Machine → Sweep → Type 0
+Keeps old new sweep = (is_noted sweep new ≡ is_noted sweep old) × (tabled_for sweep new ≡ tabled_for sweep old)
+
+abbrev pub Notes : Machine → Machine → Sweep → Type 0
+Notes old new sweep = (IsTrue (is_noted sweep new) → IsTrue (is_noted sweep old)) × (tabled_for sweep new ≤ tabled_for sweep old + 1)
+
+abbrev pub Renews : Machine → Machine → Sweep → Type 0
+Renews old new sweep = IsTrue (is_by sweep old.by) × IsTrue (is_noted sweep new) × (tabled_for sweep new ≤ most_of sweep old.finalizers.state)
+
+-- something is noted for these sweeps at most
+abbrev pub NotesFor : (Sweep → Bool) → Machine → Machine → Type 0
+NotesFor noted old new = (new.by ≡ old.by) × ((sweep : Sweep) → (IsTrue (noted sweep) × Notes old new sweep) ⊎ Keeps old new sweep)
+
+-- all is noted again for some sweeps
 abbrev pub RenewsRegions : Machine → Machine → Type 0
-RenewsRegions old new = IsTrue old.by_regions × (new.by_regions ≡ old.by_regions) × IsTrue new.noted × (new.tabled ≤ len old.finalizers.registrations)
+RenewsRegions old new = (new.by ≡ old.by) × ((sweep : Sweep) → Keeps old new sweep ⊎ Renews old new sweep)
+
+-- the sweeps about registered objects, about links of a kind, about their words alone, and about cleanups of a moment
+abbrev pub of_objects : Sweep → Bool
+of_objects sweeps.Objects = true
+of_objects sweep = false
+
+abbrev pub of_links : LinkKind → Sweep → Bool
+of_links Short sweeps.ShortTargets = true
+of_links Short sweeps.ShortHolders = true
+of_links Long sweeps.LongTargets = true
+of_links Long sweeps.LongHolders = true
+of_links kind sweep = false
+
+abbrev pub of_words : LinkKind → Sweep → Bool
+of_words Short sweeps.ShortHolders = true
+of_words Long sweeps.LongHolders = true
+of_words kind sweep = false
+
+abbrev pub of_cleanups : LinkKind → Sweep → Bool
+of_cleanups Short sweeps.ShortCleanups = true
+of_cleanups Long sweeps.LongCleanups = true
+of_cleanups when sweep = false
 
 -- no pass is open
 abbrev pub IsIdle : Machine → Type 0
@@ -201,43 +281,42 @@ pub record IsWorked (old new : Machine) : Type 0 where
 
 -- nothing is listed yet
 abbrev pub at_begin : State → Going
-at_begin s = record { finalizers = s; kept = []; left = []; aside = []; off = none_off }
+at_begin s = record { finalizers = s; kept = []; left = []; aside = []; off = none_off; told = [] }
 
 -- a pass has begun over the registrations and cleanups from a number on
 pub record IsBegunFrom (number : ℕ) (old new : Machine) : Type 0 where
   pub phase : new.phase ≡ Some (Keys First)
   pub finalizers : new.finalizers.state ≡ record old.finalizers.state { passes = next_pass old.finalizers.passes }
-  pub begins : Begins (scope new) (Keys First) (at_begin new.finalizers.state) (going new.finalizers new.walk)
+  pub begins : Begins number (Keys First) (at_begin new.finalizers.state) (going_of new)
   pub asked : new.asked ≡ 0
+  pub remaining : new.remaining ≡ 0
   pub regions : new.regions ≡ []
   pub before : new.before ≡ length old.finalizers.queue
   pub from : new.from ≡ number
-  pub by_regions : new.by_regions ≡ old.by_regions
-  pub noted : new.noted ≡ old.noted
-  pub tabled : new.tabled ≡ old.tabled
+  pub same : KeepsRegions old new
 
 -- a pass has begun over all
 abbrev pub IsBegun : Machine → Machine → Type 0
 IsBegun = IsBegunFrom 0
 
--- a question about items: registered objects are asked about only if they aren't all noted
+-- a question about items: what a sweep is about isn't asked about if all of it is noted
 pub record AsksItems (m : Machine) (phase : Phase) (q : Question) : Type 0 where
-  pub others : phase ≡ Objects → m.noted ≡ false
+  pub others : (sweep : Sweep) → phase ≡ swept sweep → is_noted sweep m ≡ false
   pub question : IsQuestion phase m.walk.left q
   pub asked : m.asked ≡ q.count
   pub regions : m.regions ≡ []
 
--- a question about regions, as many as fit. The first remaining items are those of the registered objects in them, and there is at least one
+-- a question about regions, as many as fit: there is at least one
 pub record AsksRegions (m : Machine) (phase : Phase) (q : Question) : Type 0 where
-  pub objects : phase ≡ Objects
-  pub noted : IsTrue m.noted
-  pub ask : q.ask ≡ Marks
-  pub some : 0 < length (items_in m.finalizers.state m.regions)
+  pub sweep : Sweep
+  pub is : phase ≡ Regions sweep
+  pub noted : IsTrue (is_noted sweep m)
+  pub ask : q.ask ≡ sweep_ask sweep
+  pub some : 0 < q.count
   pub most : q.count ≡ min BATCH m.remaining
+  pub about : take q.count q.about ≡ m.regions
   pub count : length m.regions ≡ q.count
-  pub about : take q.count q.about ≡ keys_of m.regions
-  pub begin : All (λ (r : ℕ × ℕ). place_in r.0 ≡ 0) m.regions
-  pub first : (rest : List Item) × (m.walk.left ≡ items_in m.finalizers.state m.regions ++ rest) × (q.count < BATCH → rest ≡ [])
+  pub begin : All (λ region. place_in region ≡ 0) m.regions
   pub asked : m.asked ≡ 0
 
 -- what a pass returns: the question of its phase, or what it has done
@@ -255,27 +334,36 @@ abbrev pub Writes : Step → List ℕ → List ℕ → Type 0
 Writes (written.Asks ask count) old new = Unit {0}
 Writes (written.Ended passed) old new = new ≡ old
 
+-- what a host answers: about the first items, or a word for each region of the last question
+pub data Heard : Type 0 where
+  Answers : List Bool → Heard
+  Words : List ℕ → Heard
+
+-- a sweep notes words; in other phases there are none to note
+abbrev pub heard_by : Phase → List ℕ → Heard → Going → Going
+heard_by phase regions (Answers answers) g = steps phase answers g
+heard_by (Regions sweep) regions (Words words) g = record g { told = g.told ++ zip regions words }
+heard_by phase regions (Words words) g = g
+
 -- a pass processes answers and proceeds
-pub record GoesTo (old : Machine) (answers : List Bool) (new : Machine) (next : Next) : Type 0 where
+pub record GoesTo (old : Machine) (heard : Heard) (new : Machine) (next : Next) : Type 0 where
   pub phase : Phase
   pub was : old.phase ≡ Some phase
-  pub goes : GoesOn (scope old) phase (steps phase answers (going old.finalizers old.walk)) new.phase (going new.finalizers new.walk)
+  pub goes : GoesOn old.from phase (heard_by phase old.regions heard (going_of old)) new.phase (going_of new)
   pub tells : Tells new next
   pub before : new.before ≡ old.before
   pub from : new.from ≡ old.from
-  pub by_regions : new.by_regions ≡ old.by_regions
+  pub by : new.by ≡ old.by
   pub noted : new.noted ≡ old.noted
-  pub tabled : new.tabled ≤ old.tabled
-  pub fewer : regions_left new ≤ regions_left old
+  pub tabled : AreFewer old.tabled new.tabled
+  pub fewer : questions_left new ≤ questions_left old
 
 -- an open pass is ended early: the finalizers are unchanged
 pub record IsAbandoned (old new : Machine) : Type 0 where
   pub was : IsTrue (is_some old.phase)
   pub idle : IsIdle new
   pub same : new.finalizers ≡ old.finalizers
-  pub by_regions : new.by_regions ≡ old.by_regions
-  pub noted : new.noted ≡ old.noted
-  pub tabled : new.tabled ≡ old.tabled
+  pub regions : KeepsRegions old new
 
 -- while values are marked, those that are put off are told by their keys; in other phases nothing is told
 abbrev pub TellsIn : Option Phase → ℕ → PutOff → PutOff → Type 0

@@ -1,6 +1,6 @@
 -- The phases of a pass: each processes a list, with one question for each item.
 -- code: fz_machine/src/phase.rt, listing.rt
-use Rattle.std.specs.Prelude.{◌≡◌, ℕ, Bool, true, false, not, if◌then◌else◌, List, [], Option, Some, None}
+use Rattle.std.specs.Prelude.{◌≡◌, ℕ, Bool, true, false, not, ◌&&◌, if◌then◌else◌, List, [], Option, Some, None, IsFalse}
 use Rattle.std.specs.FinMap.{remove}
 use Rattle.fz_model.specs.declared.kinds.LinkKind.TheVariants.{Short, Long}
 use Rattle.fz_finalizers.specs.declared.kinds.Kind.{Kind}
@@ -13,18 +13,51 @@ use Rattle.fz_machine.specs.declared.item.Item.{Item}
 use Rattle.fz_machine.specs.declared.phase.Moment.{Moment}
 use Rattle.fz_machine.specs.declared.phase.Moment.TheVariants.{First, Led, Picked, Last}
 use Rattle.fz_machine.specs.declared.phase.Phase.{Phase}
-use Rattle.fz_machine.specs.declared.phase.Phase.TheVariants.{Keys, KeysAgain, Holders, Values, ShortCleanups, ShortTargets, ShortWords, ShortKeys, ShortKeyWords, Objects, Children, Again, Picks, LateAgain, LatePicks, LongTargets, LongWords, LongKeys, LongKeyWords, ShortHolders, LongHolders, ShortKeyHolders, LongKeyHolders, LongCleanups}
+use Rattle.fz_machine.specs.declared.phase.Phase.TheVariants.{Keys, KeysAgain, Holders, Values, Regions, ShortCleanups, ShortTargets, ShortWords, ShortKeys, ShortKeyWords, Objects, Children, Again, Picks, LateAgain, LatePicks, LongTargets, LongWords, LongKeys, LongKeyWords, ShortHolders, LongHolders, ShortKeyHolders, LongKeyHolders, LongCleanups}
+use Rattle.fz_machine.specs.declared.phase.Sweep.{Sweep}
+use Rattle.fz_machine.specs.declared.phase.Sweep.TheVariants as sweeps
 use Rattle.fz_machine.specs.declared.question.Ask.{Ask}
-use Rattle.fz_machine.specs.declared.question.Ask.TheVariants.{IsMarked, MarkChildren, MarkOthers, Mark, MarkAlone, Clear, IsHolderMarked, MarkValue}
-use Rattle.fz_machine.specs.Items.{AreCleanups, AreEphemerons, AreLinks, AreObjects, AreInTurn}
+use Rattle.fz_machine.specs.declared.question.Ask.TheVariants.{IsMarked, MarkChildren, MarkOthers, Mark, MarkAlone, Clear, IsHolderMarked, Marks, Live, MarkValue}
+use Rattle.fz_machine.specs.Items.{AreCleanups, AreEphemerons, AreLinks, AreObjects, AreInTurn, target_of, word_of}
 use Rattle.fz_machine.specs.Off.{PutOff, none_off, looked_at, looking}
+
+-- the phase that a sweep comes before
+abbrev pub swept : Sweep → Phase
+swept sweeps.ShortCleanups = ShortCleanups
+swept sweeps.ShortTargets = ShortTargets
+swept sweeps.Objects = Objects
+swept sweeps.LongTargets = LongTargets
+swept sweeps.ShortHolders = ShortHolders
+swept sweeps.LongHolders = LongHolders
+swept sweeps.LongCleanups = LongCleanups
+
+abbrev pub is_swept : Phase → Bool
+is_swept ShortCleanups = true
+is_swept ShortTargets = true
+is_swept Objects = true
+is_swept LongTargets = true
+is_swept ShortHolders = true
+is_swept LongHolders = true
+is_swept LongCleanups = true
+is_swept phase = false
+
+-- a phase that is neither a sweep nor behind one
+abbrev pub IsOther : Phase → Type 0
+IsOther (Regions sweep) = ⊥
+IsOther phase = IsFalse (is_swept phase)
+
+-- what a sweep asks about regions
+abbrev pub sweep_ask : Sweep → Ask
+sweep_ask sweeps.ShortHolders = Live
+sweep_ask sweeps.LongHolders = Live
+sweep_ask sweep = Marks
 
 -- the phase in which the pass goes on once the marks are whole
 abbrev pub behind : Moment → Phase
-behind First = ShortCleanups
+behind First = Regions sweeps.ShortCleanups
 behind Led = Again
 behind Picked = LateAgain
-behind Last = LongTargets
+behind Last = Regions sweeps.LongTargets
 
 -- the next phase: if there is another round, the ephemerons that were put off are looked at again
 abbrev pub next_phase : Phase → Bool → Option Phase
@@ -33,11 +66,12 @@ next_phase (KeysAgain moment) again = Some (Holders moment)
 next_phase (Holders moment) again = Some (Values moment)
 next_phase (Values moment) false = Some (behind moment)
 next_phase (Values moment) true = Some (KeysAgain moment)
-next_phase ShortCleanups again = Some ShortTargets
+next_phase (Regions sweep) again = Some (swept sweep)
+next_phase ShortCleanups again = Some (Regions sweeps.ShortTargets)
 next_phase ShortTargets again = Some ShortWords
 next_phase ShortWords again = Some ShortKeys
 next_phase ShortKeys again = Some ShortKeyWords
-next_phase ShortKeyWords again = Some Objects
+next_phase ShortKeyWords again = Some (Regions sweeps.Objects)
 next_phase Objects again = Some Children
 next_phase Children again = Some (Keys Led)
 next_phase Again again = Some Picks
@@ -47,11 +81,11 @@ next_phase LatePicks again = Some (Keys Last)
 next_phase LongTargets again = Some LongWords
 next_phase LongWords again = Some LongKeys
 next_phase LongKeys again = Some LongKeyWords
-next_phase LongKeyWords again = Some ShortHolders
-next_phase ShortHolders again = Some LongHolders
+next_phase LongKeyWords again = Some (Regions sweeps.ShortHolders)
+next_phase ShortHolders again = Some (Regions sweeps.LongHolders)
 next_phase LongHolders again = Some ShortKeyHolders
 next_phase ShortKeyHolders again = Some LongKeyHolders
-next_phase LongKeyHolders again = Some LongCleanups
+next_phase LongKeyHolders again = Some (Regions sweeps.LongCleanups)
 next_phase LongCleanups again = None
 
 -- the phases that make the marks whole; their lists are of ephemerons, while another list is set aside
@@ -65,10 +99,6 @@ settles phase = false
 abbrev pub settles_in : Option Phase → Bool
 settles_in (Some phase) = settles phase
 settles_in None = false
-
-abbrev pub is_objects : Phase → Bool
-is_objects Objects = true
-is_objects phase = false
 
 -- the command that marks the children of an unmarked object, by its kind
 abbrev pub child_ask : Kind → Option Ask
@@ -84,32 +114,41 @@ pick_ask IgnoreSelf = Some MarkAlone
 pick_ask NoOrder = Some Mark
 pick_ask Unreachable = None
 
+-- what a phase asks about an item of which it knows nothing; a sweep asks about no items, but about regions
+abbrev pub ask_of : Phase → Item → Option Ask
+ask_of (Keys moment) item = Some IsMarked
+ask_of (KeysAgain moment) item = Some IsMarked
+ask_of (Holders moment) item = Some IsHolderMarked
+ask_of (Values moment) item = Some MarkValue
+ask_of (Regions sweep) item = None
+ask_of ShortCleanups item = Some IsMarked
+ask_of ShortTargets item = Some IsMarked
+ask_of ShortWords item = Some Clear
+ask_of ShortKeys item = Some IsMarked
+ask_of ShortKeyWords item = Some Clear
+ask_of Objects item = Some IsMarked
+ask_of Children item = child_ask item.kind
+ask_of Again item = Some IsMarked
+ask_of Picks item = pick_ask item.kind
+ask_of LateAgain item = Some IsMarked
+ask_of LatePicks item = Some MarkAlone
+ask_of LongTargets item = Some IsMarked
+ask_of LongWords item = Some Clear
+ask_of LongKeys item = Some IsMarked
+ask_of LongKeyWords item = Some Clear
+ask_of ShortHolders item = Some IsHolderMarked
+ask_of LongHolders item = Some IsHolderMarked
+ask_of ShortKeyHolders item = Some IsHolderMarked
+ask_of LongKeyHolders item = Some IsHolderMarked
+ask_of LongCleanups item = Some IsMarked
+
+-- whether what a phase would ask about an item is known to be false
+abbrev pub is_known : Phase → Item → Bool
+is_known phase item = is_swept phase && item.known
+
 -- what a phase asks about an item
 abbrev pub asks : Phase → Item → Option Ask
-asks (Keys moment) item = Some IsMarked
-asks (KeysAgain moment) item = Some IsMarked
-asks (Holders moment) item = Some IsHolderMarked
-asks (Values moment) item = Some MarkValue
-asks ShortCleanups item = Some IsMarked
-asks ShortTargets item = Some IsMarked
-asks ShortWords item = Some Clear
-asks ShortKeys item = Some IsMarked
-asks ShortKeyWords item = Some Clear
-asks Objects item = Some IsMarked
-asks Children item = child_ask item.kind
-asks Again item = Some IsMarked
-asks Picks item = pick_ask item.kind
-asks LateAgain item = Some IsMarked
-asks LatePicks item = Some MarkAlone
-asks LongTargets item = Some IsMarked
-asks LongWords item = Some Clear
-asks LongKeys item = Some IsMarked
-asks LongKeyWords item = Some Clear
-asks ShortHolders item = Some IsHolderMarked
-asks LongHolders item = Some IsHolderMarked
-asks ShortKeyHolders item = Some IsHolderMarked
-asks LongKeyHolders item = Some IsHolderMarked
-asks LongCleanups item = Some IsMarked
+asks phase item = if is_known phase item then None else ask_of phase item
 
 -- the object or the word that it asks about
 abbrev pub subject : Phase → Item → ℕ
@@ -117,6 +156,7 @@ subject (Keys moment) item = item.object
 subject (KeysAgain moment) item = item.object
 subject (Holders moment) item = item.word
 subject (Values moment) item = item.word
+subject (Regions sweep) item = item.object
 subject ShortCleanups item = item.object
 subject ShortTargets item = item.object
 subject ShortWords item = item.word
@@ -144,6 +184,7 @@ keeps (Keys moment) item answer = answer
 keeps (KeysAgain moment) item answer = answer
 keeps (Holders moment) item answer = answer
 keeps (Values moment) item answer = false
+keeps (Regions sweep) item answer = false
 keeps ShortCleanups item answer = false
 keeps ShortTargets item answer = not answer
 keeps ShortWords item answer = false
@@ -181,6 +222,7 @@ after (Keys moment) item answer s = s
 after (KeysAgain moment) item answer s = s
 after (Holders moment) item answer s = s
 after (Values moment) item answer s = s
+after (Regions sweep) item answer s = s
 after ShortCleanups item answer s = if answer then s else queued_cleanup s item.word
 after ShortTargets item answer s = s
 after ShortWords item answer s = without_short s item.word
@@ -212,53 +254,45 @@ given phase kept aside off = kept
 -- what is set aside when a phase begins, and what is put off
 abbrev pub aside_in : Phase → List Item → List Item → List Item
 aside_in (Keys moment) kept aside = kept
-aside_in ShortCleanups kept aside = []
+aside_in (Regions sweeps.ShortCleanups) kept aside = []
 aside_in Again kept aside = []
 aside_in LateAgain kept aside = []
-aside_in LongTargets kept aside = []
+aside_in (Regions sweeps.LongTargets) kept aside = []
 aside_in phase kept aside = aside
 
 abbrev pub off_in : Phase → PutOff → PutOff
 off_in (Keys moment) off = none_off
 off_in (KeysAgain moment) off = looking off
-off_in ShortCleanups off = none_off
+off_in (Regions sweeps.ShortCleanups) off = none_off
 off_in Again off = none_off
 off_in LateAgain off = none_off
-off_in LongTargets off = none_off
+off_in (Regions sweeps.LongTargets) off = none_off
 off_in phase off = off
 
--- the least numbers of the registrations and of the cleanups that a pass looks at
-pub record Scope : Type 0 where
-  pub registrations : ℕ
-  pub cleanups : ℕ
-
--- those from a number on; if they are noted in regions, a pass comes to all registrations
-abbrev pub scope_by : Bool → ℕ → Scope
-scope_by noted from = record { registrations = if noted then 0 else from; cleanups = from }
-
--- the list that a phase processes, given the list that it gets
-abbrev pub Lists : Phase → Scope → State → List Item → List Item → Type 0
-Lists (Keys moment) scope s given items = AreEphemerons s.ephemerons items
-Lists (KeysAgain moment) scope s given items = items ≡ given
-Lists (Holders moment) scope s given items = items ≡ given
-Lists (Values moment) scope s given items = items ≡ given
-Lists ShortCleanups scope s given items = AreCleanups scope.cleanups Short s.cleanups items
-Lists ShortTargets scope s given items = AreLinks s.short items
-Lists ShortWords scope s given items = items ≡ given
-Lists ShortKeys scope s given items = AreLinks s.ephemerons.short items
-Lists ShortKeyWords scope s given items = items ≡ given
-Lists Objects scope s given items = AreObjects scope.registrations s.registrations s.late items
-Lists Children scope s given items = items ≡ given
-Lists Again scope s given items = items ≡ given
-Lists Picks scope s given items = AreInTurn given items
-Lists LateAgain scope s given items = items ≡ given
-Lists LatePicks scope s given items = items ≡ given
-Lists LongTargets scope s given items = AreLinks s.long items
-Lists LongWords scope s given items = items ≡ given
-Lists LongKeys scope s given items = AreLinks s.ephemerons.long items
-Lists LongKeyWords scope s given items = items ≡ given
-Lists ShortHolders scope s given items = AreLinks s.short items
-Lists LongHolders scope s given items = AreLinks s.long items
-Lists ShortKeyHolders scope s given items = AreLinks s.ephemerons.short items
-Lists LongKeyHolders scope s given items = AreLinks s.ephemerons.long items
-Lists LongCleanups scope s given items = AreCleanups scope.cleanups Long s.cleanups items
+-- the list that a phase processes, of registrations and cleanups from a number on, given what was told in the sweep before it and the list that it gets
+abbrev pub Lists : Phase → ℕ → List (ℕ × ℕ) → State → List Item → List Item → Type 0
+Lists (Keys moment) from told s given items = AreEphemerons s.ephemerons items
+Lists (KeysAgain moment) from told s given items = items ≡ given
+Lists (Holders moment) from told s given items = items ≡ given
+Lists (Values moment) from told s given items = items ≡ given
+Lists (Regions sweep) from told s given items = items ≡ []
+Lists ShortCleanups from told s given items = AreCleanups from told Short s.cleanups items
+Lists ShortTargets from told s given items = AreLinks target_of told s.short items
+Lists ShortWords from told s given items = items ≡ given
+Lists ShortKeys from told s given items = AreLinks target_of [] s.ephemerons.short items
+Lists ShortKeyWords from told s given items = items ≡ given
+Lists Objects from told s given items = AreObjects from told s.registrations s.late items
+Lists Children from told s given items = items ≡ given
+Lists Again from told s given items = items ≡ given
+Lists Picks from told s given items = AreInTurn given items
+Lists LateAgain from told s given items = items ≡ given
+Lists LatePicks from told s given items = items ≡ given
+Lists LongTargets from told s given items = AreLinks target_of told s.long items
+Lists LongWords from told s given items = items ≡ given
+Lists LongKeys from told s given items = AreLinks target_of [] s.ephemerons.long items
+Lists LongKeyWords from told s given items = items ≡ given
+Lists ShortHolders from told s given items = AreLinks word_of told s.short items
+Lists LongHolders from told s given items = AreLinks word_of told s.long items
+Lists ShortKeyHolders from told s given items = AreLinks target_of [] s.ephemerons.short items
+Lists LongKeyHolders from told s given items = AreLinks target_of [] s.ephemerons.long items
+Lists LongCleanups from told s given items = AreCleanups from told Long s.cleanups items

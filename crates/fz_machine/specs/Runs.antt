@@ -1,6 +1,6 @@
 -- Runs of a pass over a graph, and their result.
 -- code: fz_machine/src/law.rt
-use Rattle.std.specs.Prelude.{◌≡◌, ℕ, Bool, List, [], ◌∷◌, Option, None, Some, IsTrue}
+use Rattle.std.specs.Prelude.{◌≡◌, ℕ, Bool, List, [], ◌∷◌, zip, Option, None, Some, IsTrue}
 use Rattle.fz_model.specs.State.{Map, Object}
 use Rattle.fz_pass.specs.Holds.{no_ephemerons}
 use Rattle.fz_pass.specs.Marks.{IsClosed}
@@ -10,26 +10,32 @@ use Rattle.fz_finalizers.specs.States.{State}
 use Rattle.fz_machine.specs.declared.item.Item.{Item}
 use Rattle.fz_machine.specs.declared.pass.Next.{Next}
 use Rattle.fz_machine.specs.declared.phase.Phase.{Phase}
-use Rattle.fz_machine.specs.declared.phase.Phase.TheVariants.{Objects}
-use Rattle.fz_machine.specs.declared.question.Question.{Question}
+use Rattle.fz_machine.specs.declared.phase.Phase.TheVariants.{Regions}
 use Rattle.fz_machine.specs.Graph.{AreHonestWords, AreOldMarked, Graph, IsHonest, MayBegin, MayBeAsked}
-use Rattle.fz_machine.specs.Regions.{marks_say}
-use Rattle.fz_machine.specs.Machines.{Machine, AsksRegions, IsBegun, IsBegunFrom, GoesTo, IsTold, IsWorked, Works}
-use Rattle.fz_machine.specs.Phases.{asks, subject}
+use Rattle.fz_machine.specs.Regions.{IsOfSweep}
+use Rattle.fz_machine.specs.Machines.{Machine, Heard, Answers, Words, IsBegun, IsBegunFrom, GoesTo, IsTold, IsWorked, Works}
+use Rattle.fz_machine.specs.Phases.{ask_of, subject, sweep_ask}
 
--- true answers about the first items, one after another, while the graph changes
+-- true answers about the first items, one after another, while the graph changes; also about an item that isn't asked about since it is known
 abbrev pub AreHonest : Type 0 → (ℕ → Option ℕ) → (Map Object → ℕ → Option ℕ) → Phase → List Bool → List Item → Graph → Graph → Type 0
 AreHonest Exact place value phase [] items old new = new ≡ old
 AreHonest Exact place value phase (answer ∷ answers) [] old new = ⊥
 AreHonest Exact place value phase (answer ∷ answers) (item ∷ items) old new =
-    (between : Graph) × IsHonest Exact place value (asks phase item) (subject phase item) old answer between × AreHonest Exact place value phase answers items between new
+    (between : Graph) × IsHonest Exact place value (ask_of phase item) (subject phase item) old answer between × AreHonest Exact place value phase answers items between new
+
+-- what is heard is true of a graph: answers about items, while it changes; or words about the regions of a question, while it stays. A word has to be true of the places of
+-- the sweep's items alone
+abbrev pub IsTrueOf : Type 0 → (ℕ → Option ℕ) → (Map Object → ℕ → Option ℕ) → Machine → Heard → Phase → Graph → Graph → Type 0
+IsTrueOf Exact place value m (Answers answers) phase old new = AreHonest Exact place value phase answers m.walk.left old new
+IsTrueOf Exact place value m (Words words) (Regions sweep) old new = AreHonestWords place (sweep_ask sweep) (IsOfSweep sweep m.finalizers.state) old (zip m.regions words) × (new ≡ old)
+IsTrueOf Exact place value m (Words words) phase old new = new ≡ old
 
 -- from the begin of a pass, by questions that an honest host has answered; meanwhile workers take and finish entries, and the host tells keys, whether they are
 -- marked or not
 pub data Runs (Exact : Type 0) (place : ℕ → Option ℕ) (value : Map Object → ℕ → Option ℕ) (begun : Machine) (before : Graph) : Machine → Graph → Type 0 where
   Begun : Runs Exact place value begun before begun before
-  Goes : {m new : Machine} {g after : Graph} {next : Next} (answers : List Bool) (goes : GoesTo m answers new next)
-      → Runs Exact place value begun before m g → AreHonest Exact place value goes.phase answers m.walk.left g after → Runs Exact place value begun before new after
+  Goes : {m new : Machine} {g after : Graph} {next : Next} (heard : Heard) (goes : GoesTo m heard new next)
+      → Runs Exact place value begun before m g → IsTrueOf Exact place value m heard goes.phase g after → Runs Exact place value begun before new after
   Meanwhile : {m new : Machine} {g : Graph} → IsWorked m new → Runs Exact place value begun before m g → Runs Exact place value begun before new g
   Told : {m new : Machine} {g : Graph} (key : ℕ) → IsTold key m new → Runs Exact place value begun before m g → Runs Exact place value begun before new g
 
@@ -42,7 +48,7 @@ pub record MakesPass (Exact : Type 0) (place : ℕ → Option ℕ) (value : Map 
   pub marks : (a : ℕ) → IsTrue (before.marked a) → IsTrue (after.marked a)
   pub closed : IsClosed after.objects after.marked
 
--- after any calls of the finalizers, a run whose answers are true of a graph carries out the pass
+-- after any calls of the finalizers, a run whose answers and words are true of a graph carries out the pass
 abbrev pub RunsPass : Type 0 → Type 0
 RunsPass Exact = (place : ℕ → Option ℕ) (value : Map Object → ℕ → Option ℕ) (old begun new : Machine) (past : Past) (before after : Graph)
     → IsReached old.finalizers.state past → IsBegun old begun → MayBegin place old.finalizers.state before → Runs Exact place value begun before new after → new.phase ≡ None
@@ -74,12 +80,12 @@ RunsYoungPlainPass Exact = (from : ℕ) (place : ℕ → Option ℕ) (value : Ma
     → IsReached old.finalizers.state past → old.finalizers.state.ephemerons ≡ no_ephemerons → IsBegunFrom from old begun → MayBegin place old.finalizers.state before → AreOldMarked from old.finalizers.state before → Runs Exact place value begun before new after → new.phase ≡ None
     → MakesPlainPass Exact place old.finalizers.state before new.finalizers.state after
 
--- the first item may be asked about, and each later one after true answers about those before it
+-- the first item may be asked about, known or not, and each later one after true answers about those before it
 abbrev pub AreAskable : Type 0 → (ℕ → Option ℕ) → (Map Object → ℕ → Option ℕ) → Phase → List Item → Graph → Type 0
 AreAskable Exact place value phase [] g = Unit {0}
 AreAskable Exact place value phase (item ∷ items) g =
-    MayBeAsked (asks phase item) (subject phase item) g
-    × ((answer : Bool) (between : Graph) → IsHonest Exact place value (asks phase item) (subject phase item) g answer between → AreAskable Exact place value phase items between)
+    MayBeAsked (ask_of phase item) (subject phase item) g
+    × ((answer : Bool) (between : Graph) → IsHonest Exact place value (ask_of phase item) (subject phase item) g answer between → AreAskable Exact place value phase items between)
 
 -- a host that answers for a graph is asked only what it may be asked
 abbrev pub AsksRightly : Type 0 → Type 0
@@ -92,15 +98,3 @@ abbrev pub AsksYoungRightly : Type 0 → Type 0
 AsksYoungRightly Exact = (from : ℕ) (place : ℕ → Option ℕ) (value : Map Object → ℕ → Option ℕ) (old begun new : Machine) (past : Past) (before after : Graph) (phase : Phase)
     → IsReached old.finalizers.state past → IsBegunFrom from old begun → MayBegin place old.finalizers.state before → AreOldMarked from old.finalizers.state before → Runs Exact place value begun before new after → new.phase ≡ Some phase
     → AreAskable Exact place value phase new.walk.left after
-
--- words that are true of a graph about the regions of a question are true answers about the items in them
-abbrev pub WordsAreAnswers : Type 0 → Type 0
-WordsAreAnswers Exact = (place : ℕ → Option ℕ) (value : Map Object → ℕ → Option ℕ) (old begun m : Machine) (past : Past) (before g : Graph) (question : Question) (words : List ℕ)
-    → IsReached old.finalizers.state past → IsBegun old begun → MayBegin place old.finalizers.state before → Runs Exact place value begun before m g → m.phase ≡ Some Objects → AsksRegions m Objects question → AreHonestWords g m.regions words
-    → AreHonest Exact place value Objects (marks_say m.finalizers.state m.regions words) m.walk.left g g
-
--- and in a pass that looks only at registrations and cleanups from a number on
-abbrev pub YoungWordsAreAnswers : Type 0 → Type 0
-YoungWordsAreAnswers Exact = (from : ℕ) (place : ℕ → Option ℕ) (value : Map Object → ℕ → Option ℕ) (old begun m : Machine) (past : Past) (before g : Graph) (question : Question) (words : List ℕ)
-    → IsReached old.finalizers.state past → IsBegunFrom from old begun → MayBegin place old.finalizers.state before → AreOldMarked from old.finalizers.state before → Runs Exact place value begun before m g → m.phase ≡ Some Objects → AsksRegions m Objects question → AreHonestWords g m.regions words
-    → AreHonest Exact place value Objects (marks_say m.finalizers.state m.regions words) m.walk.left g g

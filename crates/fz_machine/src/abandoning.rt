@@ -6,6 +6,7 @@ ghost use Rattle.fz_machine.specs.declared.refused.Refused.TheVariants.{NoPass};
 
 use crate::machine::Machine;
 use crate::refused::Refused;
+use crate::tables::stop;
 
 impl Machine {
     /// Ends an open pass early. What it has queued stays queued. An object that it hasn't queued stays registered, and so does a cleanup. A link or an
@@ -22,9 +23,9 @@ impl Machine {
             return Err(Refused::NoPass);
         };
         self.walk.stop(phase);
+        stop(&mut self.tables, phase);
         self.phase = None;
         self.asked = 0;
-        self.regions.stop();
         Ok(())
     }
 }

@@ -65,7 +65,7 @@ fn put_off(walk: &mut Walk, phase: Phase, item: Item, yes: bool)
 fn step(finalizers: &mut Finalizers, walk: &mut Walk, phase: Phase, item: Item, yes: bool)
     requires first { walk.old.left ≡ item ∷ drop 1 walk.old.left }
     requires room { HasRoomOff (settles phase) walk.old }
-    ensures stepped { going finalizers.new walk.new ≡ step phase yes (going finalizers.old walk.old) }
+    ensures stepped { going finalizers.new walk.new [] ≡ step phase yes (going finalizers.old walk.old []) }
     ensures room { HasRoomOff (settles phase) walk.new }
     ensures same { IsSameRoom walk.old walk.new }
 {
@@ -77,7 +77,7 @@ fn step(finalizers: &mut Finalizers, walk: &mut Walk, phase: Phase, item: Item, 
 /// Processes answers about the first remaining items, one after another.
 pub(crate) fn hear(finalizers: &mut Finalizers, walk: &mut Walk, phase: Phase, answers: &[bool])
     requires room { HasRoomOff (settles phase) walk.old }
-    ensures heard { going finalizers.new walk.new ≡ steps phase answers.now (going finalizers.old walk.old) }
+    ensures heard { going finalizers.new walk.new [] ≡ steps phase answers.now (going finalizers.old walk.old []) }
     ensures room { HasRoomOff (settles phase) walk.new }
     ensures same { IsSameRoom walk.old walk.new }
 {
@@ -92,7 +92,7 @@ pub(crate) fn hear(finalizers: &mut Finalizers, walk: &mut Walk, phase: Phase, a
 /// Skips items about which nothing is asked.
 pub(crate) fn skip(finalizers: &mut Finalizers, walk: &mut Walk, phase: Phase)
     requires room { HasRoomOff (settles phase) walk.old }
-    ensures skipped { going finalizers.new walk.new ≡ skip phase (going finalizers.old walk.old) }
+    ensures skipped { going finalizers.new walk.new [] ≡ skip phase (going finalizers.old walk.old []) }
     ensures room { HasRoomOff (settles phase) walk.new }
     ensures same { IsSameRoom walk.old walk.new }
 {

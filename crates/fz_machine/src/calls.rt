@@ -13,13 +13,15 @@ ghost use Rattle.fz_finalizers.specs.Passed.{CleansAll};
 ghost use Rattle.fz_finalizers.specs.States.{HasRooms, IsRoomier, KeepsTables, links_of, room_of};
 ghost use Rattle.fz_machine.specs.Causes.{IsJudgedBy, IsJudgedOrLacks};
 ghost use Rattle.fz_machine.specs.Going.{HasRoomForMore};
-ghost use Rattle.fz_machine.specs.Machines.{IsIdle, IsTaken, KeepsPass, KeepsRegions, RenewsRegions};
+ghost use Rattle.fz_machine.specs.Machines.{IsIdle, IsTaken, KeepsPass, KeepsRegions, NotesFor, RenewsRegions, is_noted, of_cleanups, of_links, of_objects, of_words};
 ghost use Rattle.fz_finalizers.specs.declared.refused.Refused.TheVariants.{NoMemory};
+ghost use Rattle.fz_machine.specs.declared.phase.Sweep.TheVariants as sweeps;
 
 use crate::machine::Machine;
-use crate::marks::renew;
+use crate::phase::Sweep;
 use crate::refused::Refused;
 use crate::reserving;
+use crate::tables::{attached, holders, note, renew, targets};
 use fz_finalizers::{
     Addr, Attached, Cleanup, Entry, Finalizer, LinkAnswer, LinkKind, MoveAnswer, Old,
 };
@@ -36,7 +38,7 @@ impl Machine {
     }
 
     /// Reserves room for further registrations, and for further links of both kinds: for at most 2^32 of each. Registering and linking take no memory
-    /// until this room is used up, and `shrink` frees what is left of it; only a registration in a new region of a machine with regions asks for memory then, too.
+    /// until this room is used up, and `shrink` frees what is left of it; only those in a new region of a machine with regions ask for memory then, too.
     /// Takes time proportional to the room.
     ///
     /// Fails with, in this order: `PassOpen`, `NoMemory` if an allocation fails.
@@ -65,12 +67,12 @@ impl Machine {
         }
     }
 
-    /// Frees the memory that isn't needed, as `Finalizers::shrink` does, and that of the list that a pass processes. A machine with regions notes its registered
-    /// objects again, which takes time for each registration: regions without any go, and if one couldn't be noted for lack of memory, passes ask by regions
-    /// again. If there isn't memory for that, the regions stay as they are. Fails with `PassOpen`.
+    /// Frees the memory that isn't needed, as `Finalizers::shrink` does, and that of the list that a pass processes. A machine with regions notes all again, which takes time for
+    /// each registration, link and cleanup: regions without any go, and if one couldn't be noted for lack of memory, passes ask by regions
+    /// again. If there isn't memory for that, the regions of this kind stay as they are. Fails with `PassOpen`.
     pub fn shrink(&mut self) -> Result<(), Refused>
         ensures judged { IsJudgedBy self.old.phase [] result }
-        ensures regions { KeepsRegions self.old self.new ⊎ RenewsRegions self.old self.new }
+        ensures regions { RenewsRegions self.old self.new }
         ensures refused { OnErr result (self.new ≡ self.old) }
         ensures idle { OnOk result (IsIdle self.new) }
         ensures state { self.new.finalizers.state ≡ self.old.finalizers.state }
@@ -78,9 +80,7 @@ impl Machine {
     {
         self.check()?;
         reserving::shrink(&mut self.finalizers, &mut self.walk);
-        if self.by_regions {
-            renew(&self.finalizers, &mut self.regions);
-        }
+        renew(&self.finalizers, self.by, &mut self.tables);
         Ok(())
     }
 
@@ -93,10 +93,9 @@ impl Machine {
         finalizer: Finalizer,
     ) -> Result<(u64, Option<Old>), Refused>
         ensures judged { IsJudgedOrLacks self.old.phase (register_causes self.old.finalizers.registrations self.old.finalizers.next_number object) result }
-        ensures noted { (self.new.by_regions ≡ self.old.by_regions) × (IsTrue self.new.noted → IsTrue self.old.noted) }
-        // A registration that is replaced needs no memory for its region, and another needs at most one region more.
-        ensures stays { IsTrue (contains_key self.old.finalizers.registrations object) → IsTrue self.old.noted → IsTrue self.new.noted }
-        ensures tabled { self.new.tabled ≤ self.old.tabled + 1 }
+        ensures regions { NotesFor of_objects self.old self.new }
+        // A registration that is replaced needs no memory for its region.
+        ensures stays { IsTrue (contains_key self.old.finalizers.registrations object) → is_noted sweeps.Objects self.new ≡ is_noted sweeps.Objects self.old }
         // Only an object that isn't registered can run out of memory, and only if no room is reserved.
         ensures fresh { IfErr result (λ r. r ≡ Refused.Finalizers NoMemory → get self.old.finalizers.registrations object ≡ None) }
         ensures wanting { IfErr result (λ r. r ≡ Refused.Finalizers NoMemory → (self.old.finalizers.rooms.registrations ≡ 0) ⊎ (self.old.walk.room ≤ len self.old.finalizers.registrations)) }
@@ -106,7 +105,7 @@ impl Machine {
         ensures follows { OnOk result (IsIdle self.new × Follows self.old.finalizers.state (Register object finalizer) self.new.finalizers.state) }
     {
         self.check()?;
-        self.regions.note(object);
+        note(&mut self.tables, Sweep::Objects, object);
         match reserving::register(&mut self.finalizers, &mut self.walk, object, finalizer) {
             Ok(answer) => Ok(answer),
             Err(refused) => Err(Refused::Finalizers(refused)),
@@ -118,7 +117,7 @@ impl Machine {
     /// Fails with `PassOpen`, and then as `Finalizers::link` does.
     pub fn link(&mut self, kind: LinkKind, word: Addr, target: Addr) -> Result<LinkAnswer, Refused>
         ensures judged { IsJudgedOrLacks self.old.phase (link_causes (links_of self.old.finalizers.state kind) word target) result }
-        ensures regions { KeepsRegions self.old self.new }
+        ensures regions { NotesFor (of_links kind) self.old self.new }
         // Only a new link can run out of memory, and only if no room is reserved.
         ensures fresh { IfErr result (λ r. r ≡ Refused.Finalizers NoMemory → get (links_of self.old.finalizers.state kind) word ≡ None) }
         ensures wanting { IfErr result (λ r. r ≡ Refused.Finalizers NoMemory → (room_of self.old.finalizers.rooms kind ≡ 0) ⊎ (self.old.walk.room ≤ len (links_of self.old.finalizers.state kind))) }
@@ -127,6 +126,8 @@ impl Machine {
         ensures follows { OnOk result (IsIdle self.new × Follows self.old.finalizers.state (Link kind word target) self.new.finalizers.state) }
     {
         self.check()?;
+        note(&mut self.tables, targets(kind), target);
+        note(&mut self.tables, holders(kind), word);
         match reserving::link(&mut self.finalizers, &mut self.walk, kind, word, target) {
             Ok(answer) => Ok(answer),
             Err(refused) => Err(Refused::Finalizers(refused)),
@@ -191,7 +192,7 @@ impl Machine {
     /// Fails with `PassOpen`, and then as `Finalizers::add_cleanup` does.
     pub fn add_cleanup(&mut self, object: Addr, cleanup: Cleanup) -> Result<u64, Refused>
         ensures judged { IsJudgedOrLacks self.old.phase (add_causes self.old.finalizers.cleanups self.old.finalizers.next_number object) result }
-        ensures regions { KeepsRegions self.old self.new }
+        ensures regions { NotesFor (of_cleanups cleanup.when) self.old self.new }
         // Only a call without reserved room can run out of memory.
         ensures wanting { IfErr result (λ r. r ≡ Refused.Finalizers NoMemory → (self.old.finalizers.rooms.cleanups ≡ 0) ⊎ (self.old.walk.room ≤ len self.old.finalizers.cleanups)) }
         ensures refused { OnErr result ((self.new.phase ≡ self.old.phase) × (self.new.finalizers.state ≡ self.old.finalizers.state)) }
@@ -199,6 +200,7 @@ impl Machine {
         ensures follows { OnOk result (IsIdle self.new × Follows self.old.finalizers.state (AddCleanup object cleanup) self.new.finalizers.state) }
     {
         self.check()?;
+        note(&mut self.tables, attached(cleanup.when), object);
         match reserving::add_cleanup(&mut self.finalizers, &mut self.walk, object, cleanup) {
             Ok(number) => Ok(number),
             Err(refused) => Err(Refused::Finalizers(refused)),
@@ -241,10 +243,10 @@ impl Machine {
         Ok(self.finalizers.unlink(kind, word))
     }
 
-    /// Moves a link from one word to another; its target stays the same. Fails with, in this order: `PassOpen`, `Zero` if the other word is 0.
+    /// Moves a link from one word to another; its target stays the same. May take memory for the word's region. Fails with, in this order: `PassOpen`, `Zero` if the other word is 0.
     pub fn move_link(&mut self, kind: LinkKind, word: Addr, to: Addr) -> Result<MoveAnswer, Refused>
         ensures judged { IsJudgedBy self.old.phase (move_causes to) result }
-        ensures regions { KeepsRegions self.old self.new }
+        ensures regions { NotesFor (of_words kind) self.old self.new }
         ensures refused { OnErr result ((self.new.phase ≡ self.old.phase) × (self.new.finalizers.state ≡ self.old.finalizers.state)) }
         ensures answer { IfOk result (λ answer. answer ≡ move_answer (links_of self.old.finalizers.state kind) word to) }
         ensures follows { OnOk result (IsIdle self.new × Follows self.old.finalizers.state (Move kind word to) self.new.finalizers.state) }
@@ -252,6 +254,7 @@ impl Machine {
         ensures room { IsRoomier self.old.finalizers.rooms self.new.finalizers.rooms }
     {
         self.check()?;
+        note(&mut self.tables, holders(kind), to);
         match self.finalizers.move_link(kind, word, to) {
             Ok(answer) => Ok(answer),
             Err(refused) => Err(Refused::Finalizers(refused)),

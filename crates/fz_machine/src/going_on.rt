@@ -1,101 +1,132 @@
 //! From one question to the next.
 
-ghost use Rattle.std.specs.Prelude.{◌≡◌, ◌≤◌, ◌<◌, ◌∷◌, [], map, take, length, slice_get, is_some, All, Some, IsTrue, IsFalse};
+ghost use Rattle.std.specs.Prelude.{◌≡◌, ◌≤◌, ◌<◌, ◌∷◌, [], ℕ, map, take, length, slice_get, is_some, All, Some, IfSome, IsTrue, IsFalse};
 ghost use Rattle.fz_machine.specs.declared.item.Item.{Item};
+ghost use Rattle.fz_machine.specs.declared.phase.Sweep.{Sweep};
 ghost use Rattle.fz_machine.specs.declared.question.TheConstants.{BATCH};
-ghost use Rattle.fz_machine.specs.Phases.{asks, scope_by, subject};
-ghost use Rattle.fz_machine.specs.Going.{begins_with, follows_settling, going_by, to_process_by, walk_by, AreFewer, HasFirst, HaveRoom, HasRoomOff, IsInOrder};
-ghost use Rattle.fz_machine.specs.Regions.{AreNoted};
+ghost use Rattle.fz_machine.specs.Phases.{Lists, asks, subject, swept};
+ghost use Rattle.fz_machine.specs.Going.{AreNoMore, AreReady, Changes, HasAsk, HasRoom, HasRoomOff, HaveRoom, IsInOrder, IsListed, Lacks, emptied, follows_settling, going, left_in, questions_by, told_for, told_in};
+ghost use Rattle.fz_machine.specs.Regions.{IsRenoted, IsTold, begun, table_at};
 ghost use Rattle.fz_machine.specs.Steps.{Begins, GoesOn, IsQuestion, skip};
 
 use crate::asking::skip;
 use crate::item::Item;
-use crate::listing::begin;
-use crate::marks::settle;
-use crate::phase::Phase;
+use crate::listing::{begin, walk_swept};
+use crate::phase::{Phase, Sweep};
 use crate::question::{Ask, BATCH};
 use crate::regions::Regions;
+use crate::tables;
+use crate::tables::has_left;
 use crate::walk::Walk;
 use fz_finalizers::Finalizers;
 use fz_model::Addr;
 
-/// Skips what isn't asked about, and returns whether something is left.
-fn skip_by(
-    finalizers: &mut Finalizers,
-    walk: &mut Walk,
-    regions: &mut Regions,
-    phase: Phase,
-) -> bool
-    requires order { IsInOrder finalizers.old.state walk.old regions.old (Some phase) 0 }
-    ensures skipped { going_by finalizers.new walk.new regions.new ≡ skip phase (going_by finalizers.old walk.old regions.old) }
-    ensures left { IsFalse result → walk.new.left ≡ [] }
-    ensures some { result ≡ is_some (slice_get (walk_by finalizers.new.state walk.new regions.new).left 0) }
-    ensures order { IsInOrder finalizers.new.state walk.new regions.new (Some phase) 0 }
-    ensures first { HasFirst finalizers.new.state regions.new }
-    ensures none { IsFalse result → regions.new.left ≡ [] }
-    ensures fewer { AreFewer regions.old regions.new }
-    ensures same { regions.new.complete ≡ regions.old.complete }
+/// Whether a phase has something to ask: about regions, or about items once those about which nothing is asked are skipped.
+fn stays(finalizers: &mut Finalizers, walk: &mut Walk, tables: &[Regions], phase: Phase) -> bool
+    requires order { IsInOrder finalizers.old.state walk.old tables.now (Some phase) }
+    ensures asks { IsTrue result → (from : ℕ) → GoesOn from phase (going finalizers.old walk.old (told_in tables.now (Some phase))) (Some phase) (going finalizers.new walk.new (told_in tables.now (Some phase))) }
+    ensures skipped { IsFalse result → going finalizers.new walk.new (told_in tables.now (Some phase)) ≡ skip phase (going finalizers.old walk.old (told_in tables.now (Some phase))) }
+    ensures none { IsFalse result → (walk.new.left ≡ []) × (left_in tables.now (Some phase) ≡ []) }
+    ensures some { IsTrue result → HasAsk phase walk.new.left (left_in tables.now (Some phase)) }
+    ensures order { IsInOrder finalizers.new.state walk.new tables.now (Some phase) }
+    // Behind a sweep in which all was told nothing is asked.
+    ensures known { (sweep : Sweep) → phase ≡ swept sweep → All (λ (item : Item). IsTrue item.known) walk.old.left → IsFalse result }
 {
-    if settle(finalizers, regions) {
+    if has_left(tables, phase) {
         return true;
     }
     skip(finalizers, walk, phase);
     walk.first().is_some()
 }
 
-/// Lists what a phase processes: registrations by regions, if these are complete.
+/// Opens a sweep. Nothing is listed.
+fn begin_sweep(walk: &mut Walk, tables: &mut [Regions], sweep: Sweep)
+    requires { length tables.old ≡ 7 }
+    ensures walk { walk.new ≡ emptied sweep walk.old }
+    ensures changes { Changes sweep tables.old tables.new }
+    ensures begun { table_at tables.new sweep ≡ begun (table_at tables.old sweep) }
+{
+    match sweep {
+        Sweep::ShortCleanups | Sweep::LongTargets => walk.resume(),
+        _ => {}
+    }
+    walk.clear();
+    tables::begin(tables, sweep);
+}
+
+/// Lists what the phase behind a sweep processes, of registrations and cleanups those whose numbers are at least `from`.
+fn begin_swept(
+    finalizers: &Finalizers,
+    walk: &mut Walk,
+    tables: &mut [Regions],
+    from: u64,
+    sweep: Sweep,
+)
+    requires count { length tables.old ≡ 7 }
+    requires told { IsTold sweep finalizers.now.state (table_at tables.old sweep) }
+    requires room { HasRoom finalizers.now.state walk.old.room }
+    ensures listed { Lists (swept sweep) from (table_at tables.old sweep).told finalizers.now.state [] walk.new.left }
+    ensures others { IsListed walk.old walk.new }
+    ensures changes { Changes sweep tables.old tables.new }
+    ensures renoted { IsRenoted sweep finalizers.now.state (table_at tables.old sweep) (table_at tables.new sweep) }
+{
+    walk_swept(finalizers, from, sweep, &mut tables[sweep.index()], walk);
+}
+
+/// Lists what a phase processes, of registrations and cleanups those whose numbers are at least `from`.
 fn begin_by(
     finalizers: &Finalizers,
     walk: &mut Walk,
-    regions: &mut Regions,
+    tables: &mut [Regions],
     from: u64,
     phase: Phase,
 )
-    requires none { regions.old.left ≡ [] }
+    requires ready { AreReady finalizers.now.state tables.old phase }
     requires left { walk.old.left ≡ [] }
     requires room { HaveRoom (follows_settling phase) finalizers.now.state walk.old }
     requires off { HasRoomOff (follows_settling phase) walk.old }
-    requires noted { IsTrue regions.old.complete → AreNoted finalizers.now.state regions.old.order }
-    ensures begins { Begins (scope_by regions.old.complete from) phase (going_by finalizers.now walk.old regions.old) (going_by finalizers.now walk.new regions.new) }
-    ensures order { IsInOrder finalizers.now.state walk.new regions.new (Some phase) 0 }
-    ensures tabled { regions.new.order ≡ regions.old.order }
-    ensures left { length regions.new.left ≤ begins_with phase (length regions.old.order) }
-    ensures same { regions.new.complete ≡ regions.old.complete }
+    ensures begins { Begins from phase (going finalizers.now walk.old (told_for tables.old phase)) (going finalizers.now walk.new (told_in tables.new (Some phase))) }
+    ensures order { IsInOrder finalizers.now.state walk.new tables.new (Some phase) }
+    ensures more { AreNoMore tables.old tables.new }
 {
-    if phase.is_objects() && regions.is_complete() {
-        walk.clear();
-        regions.begin();
+    if let Phase::Regions(sweep) = phase {
+        begin_sweep(walk, tables, sweep);
         return;
     }
-    begin(finalizers, walk, from, phase);
+    let Some(sweep) = phase.sweep() else {
+        begin(finalizers, walk, phase);
+        return;
+    };
+    begin_swept(finalizers, walk, tables, from, sweep);
 }
 
 /// Proceeds to the first phase with something to ask, and returns it, or to the end of the pass.
 pub(crate) fn go_on(
     finalizers: &mut Finalizers,
     walk: &mut Walk,
-    regions: &mut Regions,
+    tables: &mut [Regions],
     from: u64,
     phase: Phase,
 ) -> Option<Phase>
-    requires order { IsInOrder finalizers.old.state walk.old regions.old (Some phase) 0 }
-    ensures goes { GoesOn (scope_by regions.old.complete from) phase (going_by finalizers.old walk.old regions.old) result (going_by finalizers.new walk.new regions.new) }
-    ensures order { IsInOrder finalizers.new.state walk.new regions.new result 0 }
-    ensures tabled { length regions.new.order ≤ length regions.old.order }
-    ensures fewer { to_process_by result regions.new ≤ to_process_by (Some phase) regions.old }
-    ensures first { HasFirst finalizers.new.state regions.new }
-    ensures same { regions.new.complete ≡ regions.old.complete }
+    requires order { IsInOrder finalizers.old.state walk.old tables.old (Some phase) }
+    requires lacks { Lacks (Some phase) tables.old }
+    ensures goes { GoesOn from phase (going finalizers.old walk.old (told_in tables.old (Some phase))) result (going finalizers.new walk.new (told_in tables.new result)) }
+    ensures order { IsInOrder finalizers.new.state walk.new tables.new result }
+    ensures more { AreNoMore tables.old tables.new }
+    ensures fewer { questions_by result tables.new ≤ questions_by (Some phase) tables.old }
+    ensures lacks { Lacks result tables.new }
+    ensures some { IfSome result (λ phase. HasAsk phase walk.new.left (left_in tables.new (Some phase))) }
 {
     let mut phase = phase;
     loop {
-        if skip_by(finalizers, walk, regions, phase) {
+        if stays(finalizers, walk, tables, phase) {
             return Some(phase);
         }
         let Some(next) = phase.next(walk.looks_again()) else {
             return None;
         };
         phase = next;
-        begin_by(finalizers, walk, regions, from, phase);
+        begin_by(finalizers, walk, tables, from, phase);
     }
 }
 

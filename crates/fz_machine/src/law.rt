@@ -1,10 +1,13 @@
 //! The result of a run of questions and answers.
 
 ghost use Rattle.fz_machine.specs.Heard.{PassesAreCalls, PassesEnd, RegionQuestionsEnd};
-ghost use Rattle.fz_machine.specs.Runs.{AsksRightly, AsksYoungRightly, RunsPass, RunsPlainPass, RunsYoungPass, RunsYoungPlainPass, WordsAreAnswers, YoungWordsAreAnswers};
+ghost use Rattle.fz_machine.specs.Runs.{AsksRightly, AsksYoungRightly, RunsPass, RunsPlainPass, RunsYoungPass, RunsYoungPlainPass};
 
 /// A run whose answers are true of a graph carries out the model's pass, as `Finalizers::pass_with_ephemerons` does. Entries that are taken and finished between its questions
 /// might as well be taken and finished after the pass. What the host tells by `Machine::key_marked` need not be true.
+///
+/// Questions about regions are answered by words (`Machine::next_marks`). A word has to be true of the places of registered objects, of targets of links, of objects of
+/// cleanups or of words of links, as its question is about these; of other places it may say anything.
 ///
 /// If the host marks exactly what it is asked to mark, the run queues and retains exactly what the model does. If it marks more, the run queues no more than
 /// the model, and retains no less.
@@ -23,13 +26,14 @@ pub fn runs_make_the_plain_pass()
 /// one for each cleanup; and for `n` ephemerons `3 * n + 4 * n * (2 * n + 1)`. Each of four times the marks are made whole in rounds of at most three answers for each ephemeron
 /// that still waits. A value is asked about once. At most two further rounds follow each round in which a value is asked about: one over the ephemerons whose keys were told,
 /// and one over all that still wait. This bounds answers, not calls: a call of `next` without answers repeats the question, so a host that never answers never reaches the
-/// end. Each question is about at least one item, so a host that answers at least one item of each question reaches the end after at most that many questions.
+/// end. Each question is about at least one item, or about regions, which `region_questions_end` bounds: so a host that answers at least one item of each question about
+/// items reaches the end after at most that many questions, and those about regions.
 pub fn passes_end()
     ensures { PassesEnd }
 {}
 
 /// Whatever the host answers and tells, and whatever is taken and finished meanwhile, a pass of a machine with regions processes words for at most one question for each
-/// 64 regions that are there when it begins, and one for those left over. A call without their words repeats the question, as above.
+/// 64 regions that each of its tables has when it begins, and one for those left over in each. A call without their words repeats the question, as above.
 pub fn region_questions_end()
     ensures { RegionQuestionsEnd }
 {}
@@ -47,13 +51,6 @@ pub fn questions_may_be_asked()
     ensures asked_of_more { AsksRightly ⊥ }
 {}
 
-/// Words that say truly what is marked in the regions of a question are true answers about the registered objects in them. So what `runs_make_the_pass` states
-/// holds of a host that answers such questions by `Machine::next_marks`. What a word says about a place where no object begins doesn't matter.
-pub fn words_are_answers()
-    ensures exact { WordsAreAnswers (Unit {0}) }
-    ensures more { WordsAreAnswers ⊥ }
-{}
-
 /// A pass that looks only at registrations and cleanups from a number on, as `Machine::begin_from` opens it, is a pass over all of them if the objects of the earlier ones are
 /// marked: all that the other functions here state of runs that answer for a graph holds of it, too.
 pub fn young_passes_are_passes()
@@ -63,6 +60,4 @@ pub fn young_passes_are_passes()
     ensures plain_young_of_more { RunsYoungPlainPass ⊥ }
     ensures asked_young { AsksYoungRightly (Unit {0}) }
     ensures asked_young_of_more { AsksYoungRightly ⊥ }
-    ensures words_young { YoungWordsAreAnswers (Unit {0}) }
-    ensures words_young_of_more { YoungWordsAreAnswers ⊥ }
 {}

@@ -19,17 +19,18 @@ mod regions;
 mod reserving;
 mod responding;
 mod rows;
+mod tables;
 mod telling;
 mod walk;
 
 pub use item::Item;
 pub use law::{
     passes_are_calls, passes_end, questions_may_be_asked, region_questions_end, runs_make_the_pass,
-    runs_make_the_plain_pass, words_are_answers,
+    runs_make_the_plain_pass,
 };
-pub use machine::Machine;
+pub use machine::{By, Machine};
 pub use pass::{Next, Step};
-pub use phase::{Moment, Phase};
+pub use phase::{Moment, Phase, Sweep};
 pub use question::{Ask, BATCH, Question};
 pub use refused::Refused;
 pub use responding::{respond, respond_marks, respond_with_values};

@@ -1,20 +1,22 @@
 //! The lists that phases process.
 
-ghost use Rattle.std.specs.Prelude.{◌≡◌, ◌≤◌, ◌<◌, ◌+◌, ◌*◌, ◌^◌, ◌++◌, ◌∷◌, ◌&&◌, [], ℕ, List, nat_le, true, false, if◌then◌else◌, filter, length, map, All, vec_len, vec_capacity};
+ghost use Rattle.std.specs.Prelude.{◌≡◌, ◌≤◌, ◌<◌, ◌+◌, ◌*◌, ◌^◌, ◌++◌, ◌∷◌, ◌&&◌, ◌⊎◌, [], ℕ, List, nat_le, not, true, false, if◌then◌else◌, filter, length, map, All, IsTrue, IsFalse, vec_len, vec_capacity};
 ghost use Rattle.fz_machine.specs.declared.item.Item.{Item};
 ghost use Rattle.std.specs.FinMap.{len};
 ghost use Rattle.fz_finalizers.specs.States.{links_of};
 ghost use Rattle.fz_pass.specs.Keyed.{of_kind};
 ghost use Rattle.fz_finalizers.specs.declared.cleanups.Attached.{Attached};
 ghost use Rattle.fz_finalizers.specs.Cleanups.{is_when};
-ghost use Rattle.fz_machine.specs.Items.{AreCleanups, AreEntriesOf, AreEphemerons, AreLinks, AreObjects, of_cleanup, of_stored};
+ghost use Rattle.fz_machine.specs.Items.{AreCleanups, AreEntriesOf, AreEphemerons, AreLinks, AreObjects, is_listed, link_number, of_cleanup, of_link, of_stored, target_of};
 ghost use Rattle.fz_machine.specs.Going.{ephemerons_in, follows_settling, going, HasRoom, HaveRoom, HasRoomOff, IsListed};
 ghost use Rattle.fz_machine.specs.Off.{none_off};
-ghost use Rattle.fz_machine.specs.Phases.{scope_by, settles};
+ghost use Rattle.fz_machine.specs.Phases.{IsOther, Lists, settles, swept};
+ghost use Rattle.fz_machine.specs.Regions.{IsLooked, IsRenoted, IsTold, IsWhole, attached, is_marked, is_unmarked, link_sweep};
 ghost use Rattle.fz_machine.specs.Steps.{Begins};
 
 use crate::item::Item;
-use crate::phase::Phase;
+use crate::phase::{Phase, Sweep};
+use crate::regions::Regions;
 use crate::walk::Walk;
 use fz_finalizers::{Attached, Finalizers, Stored};
 use fz_model::{Addr, LinkKind};
@@ -28,67 +30,114 @@ pub(crate) fn put(items: &mut Vec<Item>, item: Item)
     let _ = items.push(item);
 }
 
-/// Appends all links of one kind to the list, which has room for them.
-fn list_links(finalizers: &Finalizers, kind: LinkKind, items: &mut Vec<Item>)
-    requires empty { items.old.items ≡ [] }
-    requires room { len (links_of finalizers.now.state kind) ≤ vec_capacity items.old }
-    ensures listed { AreLinks (links_of finalizers.now.state kind) items.new.items }
-    ensures room { vec_capacity items.old ≤ vec_capacity items.new }
-{
-    for (word, target) in finalizers.iter_links(kind) {
-        put(items, Item::of_link(word, target));
-    }
-}
-
-/// Appends a registration to the list, which has room for it, if its number is at least `from`.
-fn put_if_young(items: &mut Vec<Item>, from: u64, object: Addr, stored: Stored)
+/// Notes a link's target, or its word, and appends the link to the list, which has room for it, unless that was told marked.
+fn put_link(table: &mut Regions, words: bool, word: Addr, target: Addr, items: &mut Vec<Item>)
+    requires whole { IsWhole table.old }
     requires room { vec_len items.old < vec_capacity items.old }
-    ensures listed { items.new.items ≡ (if nat_le from stored.number then items.old.items ++ of_stored (object, stored) ∷ [] else items.old.items) }
+    ensures listed { items.new.items ≡ (if is_marked table.old.told (link_number words (word, target)) then items.old.items else items.old.items ++ of_link (is_unmarked table.old.told (link_number words (word, target))) (word, target) ∷ []) }
+    ensures looked { IsLooked (link_number words (word, target)) table.old table.new }
     ensures capacity { vec_capacity items.old ≤ vec_capacity items.new }
 {
-    if from <= stored.number {
-        put(items, Item::of_stored(object, &stored));
+    let (marked, known) = table.look(if words { word } else { target });
+    if !marked {
+        put(items, Item::of_link(word, target, known));
     }
 }
 
-/// Appends all registrations whose numbers are at least `from` to the list, which has room for all.
-fn list_objects(finalizers: &Finalizers, from: u64, items: &mut Vec<Item>)
+/// Appends all links of one kind whose targets, or words, weren't told marked to the list, which has room for all.
+fn list_links(
+    finalizers: &Finalizers,
+    kind: LinkKind,
+    words: bool,
+    table: &mut Regions,
+    items: &mut Vec<Item>,
+)
+    requires told { IsTold (link_sweep words kind) finalizers.now.state table.old }
     requires empty { items.old.items ≡ [] }
-    requires room { len finalizers.now.registrations ≤ vec_capacity items.old }
-    ensures listed { AreObjects from finalizers.now.registrations finalizers.now.late items.new.items }
+    requires room { len (links_of finalizers.now.state kind) ≤ vec_capacity items.old }
+    ensures listed { AreLinks (link_number words) table.old.told (links_of finalizers.now.state kind) items.new.items }
+    ensures renoted { IsRenoted (link_sweep words kind) finalizers.now.state table.old table.new }
     ensures room { vec_capacity items.old ≤ vec_capacity items.new }
 {
-    for (object, stored) in finalizers.iter_stored() {
-        put_if_young(items, from, object, stored);
+    let links = finalizers.iter_links(kind);
+    if !table.lists() {
+        table.end();
+        return;
     }
+    for (word, target) in links {
+        put_link(table, words, word, target, items);
+    }
+    table.end();
+}
+
+/// Notes an object, and appends its registration to the list, which has room for it, if its number is at least `from`, unless it was told marked.
+fn put_object(table: &mut Regions, from: u64, object: Addr, stored: Stored, items: &mut Vec<Item>)
+    requires whole { IsWhole table.old }
+    requires room { vec_len items.old < vec_capacity items.old }
+    ensures listed { items.new.items ≡ (if nat_le from stored.number && not (is_marked table.old.told object) then items.old.items ++ of_stored (is_unmarked table.old.told object) (object, stored) ∷ [] else items.old.items) }
+    ensures looked { IsLooked object table.old table.new }
+    ensures capacity { vec_capacity items.old ≤ vec_capacity items.new }
+{
+    let (marked, known) = table.look(object);
+    if from <= stored.number && !marked {
+        put(items, Item::of_stored(object, &stored, known));
+    }
+}
+
+/// Appends all registrations whose numbers are at least `from`, and whose objects weren't told marked, to the list, which has room for all.
+fn list_objects(finalizers: &Finalizers, from: u64, table: &mut Regions, items: &mut Vec<Item>)
+    requires told { IsTold Sweep.Objects finalizers.now.state table.old }
+    requires empty { items.old.items ≡ [] }
+    requires room { len finalizers.now.registrations ≤ vec_capacity items.old }
+    ensures listed { AreObjects from table.old.told finalizers.now.registrations finalizers.now.late items.new.items }
+    ensures renoted { IsRenoted Sweep.Objects finalizers.now.state table.old table.new }
+    ensures room { vec_capacity items.old ≤ vec_capacity items.new }
+{
+    let registrations = finalizers.iter_stored();
+    if !table.lists() {
+        table.end();
+        return;
+    }
+    for (object, stored) in registrations {
+        put_object(table, from, object, stored, items);
+    }
+    table.end();
 }
 
 /// Appends all ephemerons of one kind to the list, which has room for them.
 fn list_ephemerons(finalizers: &Finalizers, kind: LinkKind, items: &mut Vec<Item>)
     requires room { vec_len items.old + len (of_kind finalizers.now.ephemerons kind) ≤ vec_capacity items.old }
-    ensures listed { (more : List Item) × AreLinks (of_kind finalizers.now.ephemerons kind) more × (items.new.items ≡ items.old.items ++ more) }
+    ensures listed { (more : List Item) × AreLinks target_of [] (of_kind finalizers.now.ephemerons kind) more × (items.new.items ≡ items.old.items ++ more) }
     ensures room { vec_capacity items.old ≤ vec_capacity items.new }
 {
     for (word, key) in finalizers.iter_ephemerons(kind) {
-        put(items, Item::of_link(word, key));
+        put(items, Item::of_link(word, key, false));
     }
 }
 
-/// Lists all links of a kind.
-fn walk_links(finalizers: &Finalizers, kind: LinkKind, walk: &mut Walk)
+/// Lists all links of a kind whose targets, or words, weren't told marked.
+fn walk_links(
+    finalizers: &Finalizers,
+    kind: LinkKind,
+    words: bool,
+    table: &mut Regions,
+    walk: &mut Walk,
+)
+    requires told { IsTold (link_sweep words kind) finalizers.now.state table.old }
     requires room { HasRoom finalizers.now.state walk.old.room }
-    ensures listed { AreLinks (links_of finalizers.now.state kind) walk.new.left }
+    ensures listed { AreLinks (link_number words) table.old.told (links_of finalizers.now.state kind) walk.new.left }
+    ensures renoted { IsRenoted (link_sweep words kind) finalizers.now.state table.old table.new }
     ensures others { IsListed walk.old walk.new }
 {
     let mut items = walk.take_room();
-    list_links(finalizers, kind, &mut items);
+    list_links(finalizers, kind, words, table, &mut items);
     walk.put(items);
 }
 
 /// Lists all ephemerons of a kind.
 fn walk_keys(finalizers: &Finalizers, kind: LinkKind, walk: &mut Walk)
     requires room { ephemerons_in finalizers.now.state ≤ walk.old.room }
-    ensures listed { AreLinks (of_kind finalizers.now.ephemerons kind) walk.new.left }
+    ensures listed { AreLinks target_of [] (of_kind finalizers.now.ephemerons kind) walk.new.left }
     ensures others { IsListed walk.old walk.new }
 {
     let mut items = walk.take_room();
@@ -109,41 +158,71 @@ fn walk_ephemerons(finalizers: &Finalizers, walk: &mut Walk)
     walk.put(items);
 }
 
-/// Lists all registrations whose numbers are at least `from`.
-fn walk_objects(finalizers: &Finalizers, from: u64, walk: &mut Walk)
+/// Lists all registrations whose numbers are at least `from`, and whose objects weren't told marked.
+fn walk_objects(finalizers: &Finalizers, from: u64, table: &mut Regions, walk: &mut Walk)
+    requires told { IsTold Sweep.Objects finalizers.now.state table.old }
     requires room { HasRoom finalizers.now.state walk.old.room }
-    ensures listed { AreObjects from finalizers.now.registrations finalizers.now.late walk.new.left }
+    ensures listed { AreObjects from table.old.told finalizers.now.registrations finalizers.now.late walk.new.left }
+    ensures renoted { IsRenoted Sweep.Objects finalizers.now.state table.old table.new }
     ensures others { IsListed walk.old walk.new }
 {
     let mut items = walk.take_room();
-    list_objects(finalizers, from, &mut items);
+    list_objects(finalizers, from, table, &mut items);
     walk.put(items);
 }
 
-/// Appends a cleanup to the list, which has room for it, if it is of this moment, and its number is at least `from`.
-fn put_if_when(items: &mut Vec<Item>, when: LinkKind, from: u64, number: u64, attached: Attached)
+/// Notes the object of a cleanup of this moment, and appends the cleanup to the list, which has room for it, if its number is at least `from`, unless the object was told
+/// marked.
+fn put_cleanup(
+    table: &mut Regions,
+    when: LinkKind,
+    from: u64,
+    number: u64,
+    attached: Attached,
+    items: &mut Vec<Item>,
+)
+    requires whole { IsWhole table.old }
     requires room { vec_len items.old < vec_capacity items.old }
-    ensures listed { items.new.items ≡ (if nat_le from number && is_when when attached.cleanup.when then items.old.items ++ of_cleanup (number, attached) ∷ [] else items.old.items) }
+    ensures listed { items.new.items ≡ (if is_listed from table.old.told when (number, attached) then items.old.items ++ of_cleanup (is_unmarked table.old.told attached.object) (number, attached) ∷ [] else items.old.items) }
+    ensures looked { (IsTrue (is_when when attached.cleanup.when) × IsLooked attached.object table.old table.new) ⊎ (IsFalse (is_when when attached.cleanup.when) × (table.new ≡ table.old)) }
     // Tells the caller that the number is less than 2^64.
     ensures number { number < 2 ^ 64 }
     ensures capacity { vec_capacity items.old ≤ vec_capacity items.new }
 {
-    if from <= number && attached.cleanup.is_when(when) {
-        put(items, Item::of_cleanup(number, &attached));
+    if !attached.cleanup.is_when(when) {
+        return;
+    }
+    let (marked, known) = table.look(attached.object);
+    if from <= number && !marked {
+        put(items, Item::of_cleanup(number, &attached, known));
     }
 }
 
-/// Appends all cleanups of a moment whose numbers are at least `from` to the list, which has room for all.
-fn list_cleanups(finalizers: &Finalizers, when: LinkKind, from: u64, items: &mut Vec<Item>)
+/// Appends all cleanups of a moment whose numbers are at least `from`, and whose objects weren't told marked, to the list, which has room for all.
+fn list_cleanups(
+    finalizers: &Finalizers,
+    when: LinkKind,
+    from: u64,
+    table: &mut Regions,
+    items: &mut Vec<Item>,
+)
+    requires told { IsTold (attached when) finalizers.now.state table.old }
     requires empty { items.old.items ≡ [] }
     requires room { len finalizers.now.cleanups ≤ vec_capacity items.old }
-    ensures listed { (es : List (ℕ × Attached)) × AreEntriesOf finalizers.now.cleanups es × (items.new.items ≡ map of_cleanup (filter (λ e. nat_le from e.0 && is_when when e.1.cleanup.when) es)) }
+    ensures listed { (es : List (ℕ × Attached)) × AreEntriesOf finalizers.now.cleanups es × (items.new.items ≡ map (λ e. of_cleanup (is_unmarked table.old.told e.1.object) e) (filter (is_listed from table.old.told when) es)) }
     ensures numbers { All (λ item. item.word < 2 ^ 64) items.new.items }
+    ensures renoted { IsRenoted (attached when) finalizers.now.state table.old table.new }
     ensures room { vec_capacity items.old ≤ vec_capacity items.new }
 {
-    for (number, attached) in finalizers.iter_cleanups() {
-        put_if_when(items, when, from, number, attached);
+    let cleanups = finalizers.iter_cleanups();
+    if !table.lists() {
+        table.end();
+        return;
     }
+    for (number, attached) in cleanups {
+        put_cleanup(table, when, from, number, attached, items);
+    }
+    table.end();
 }
 
 /// A cleanup's sort key: its rank, then its number.
@@ -153,14 +232,22 @@ fn numbered(item: &Item) -> u128
     u128::from(item.turn) * 0x1_0000_0000_0000_0000 + u128::from(item.word)
 }
 
-/// Lists all cleanups of a moment whose numbers are at least `from`, by rank, then number.
-fn walk_cleanups(finalizers: &Finalizers, when: LinkKind, from: u64, walk: &mut Walk)
+/// Lists all cleanups of a moment whose numbers are at least `from`, and whose objects weren't told marked, by rank, then number.
+fn walk_cleanups(
+    finalizers: &Finalizers,
+    when: LinkKind,
+    from: u64,
+    table: &mut Regions,
+    walk: &mut Walk,
+)
+    requires told { IsTold (attached when) finalizers.now.state table.old }
     requires room { HasRoom finalizers.now.state walk.old.room }
-    ensures listed { AreCleanups from when finalizers.now.cleanups walk.new.left }
+    ensures listed { AreCleanups from table.old.told when finalizers.now.cleanups walk.new.left }
+    ensures renoted { IsRenoted (attached when) finalizers.now.state table.old table.new }
     ensures others { IsListed walk.old walk.new }
 {
     let mut items = walk.take_room();
-    list_cleanups(finalizers, when, from, &mut items);
+    list_cleanups(finalizers, when, from, table, &mut items);
     items.sort_unstable_by_key(|item| numbered(item));
     walk.put(items);
 }
@@ -177,12 +264,38 @@ fn walk_rows(finalizers: &Finalizers, walk: &mut Walk)
     walk_ephemerons(finalizers, walk);
 }
 
-/// Lists what a phase processes, of registrations and cleanups those whose numbers are at least `from`.
-pub(crate) fn begin(finalizers: &Finalizers, walk: &mut Walk, from: u64, phase: Phase)
+/// Lists what a phase behind a sweep processes, of registrations and cleanups those whose numbers are at least `from`.
+pub(crate) fn walk_swept(
+    finalizers: &Finalizers,
+    from: u64,
+    sweep: Sweep,
+    table: &mut Regions,
+    walk: &mut Walk,
+)
+    requires told { IsTold sweep finalizers.now.state table.old }
+    requires room { HasRoom finalizers.now.state walk.old.room }
+    ensures listed { Lists (swept sweep) from table.old.told finalizers.now.state [] walk.new.left }
+    ensures renoted { IsRenoted sweep finalizers.now.state table.old table.new }
+    ensures others { IsListed walk.old walk.new }
+{
+    match sweep {
+        Sweep::ShortCleanups => walk_cleanups(finalizers, LinkKind::Short, from, table, walk),
+        Sweep::ShortTargets => walk_links(finalizers, LinkKind::Short, false, table, walk),
+        Sweep::Objects => walk_objects(finalizers, from, table, walk),
+        Sweep::LongTargets => walk_links(finalizers, LinkKind::Long, false, table, walk),
+        Sweep::ShortHolders => walk_links(finalizers, LinkKind::Short, true, table, walk),
+        Sweep::LongHolders => walk_links(finalizers, LinkKind::Long, true, table, walk),
+        Sweep::LongCleanups => walk_cleanups(finalizers, LinkKind::Long, from, table, walk),
+    }
+}
+
+/// Lists what a phase processes that is neither a sweep nor behind one.
+pub(crate) fn begin(finalizers: &Finalizers, walk: &mut Walk, phase: Phase)
+    requires other { IsOther phase }
     requires room { HaveRoom (follows_settling phase) finalizers.now.state walk.old }
     requires off { HasRoomOff (follows_settling phase) walk.old }
     requires left { walk.old.left ≡ [] }
-    ensures begins { Begins (scope_by false from) phase (going finalizers.now walk.old) (going finalizers.now walk.new) }
+    ensures begins { (from : ℕ) → Begins from phase (going finalizers.now walk.old []) (going finalizers.now walk.new []) }
     ensures room { HaveRoom (settles phase) finalizers.now.state walk.new }
     ensures off { HasRoomOff (settles phase) walk.new }
 {
@@ -190,23 +303,12 @@ pub(crate) fn begin(finalizers: &Finalizers, walk: &mut Walk, from: u64, phase: 
         Phase::Keys(_) => walk_rows(finalizers, walk),
         Phase::KeysAgain(_) => walk.look_again(),
         Phase::Holders(_) | Phase::Values(_) => walk.again(),
-        Phase::ShortCleanups => {
-            walk.resume();
-            walk_cleanups(finalizers, LinkKind::Short, from, walk);
-        }
-        Phase::LongTargets => {
-            walk.resume();
-            walk_links(finalizers, LinkKind::Long, walk);
-        }
         Phase::Again | Phase::LateAgain => walk.resume(),
-        Phase::ShortTargets | Phase::ShortHolders => walk_links(finalizers, LinkKind::Short, walk),
-        Phase::LongHolders => walk_links(finalizers, LinkKind::Long, walk),
         Phase::ShortKeys | Phase::ShortKeyHolders => walk_keys(finalizers, LinkKind::Short, walk),
         Phase::LongKeys | Phase::LongKeyHolders => walk_keys(finalizers, LinkKind::Long, walk),
-        Phase::LongCleanups => walk_cleanups(finalizers, LinkKind::Long, from, walk),
-        Phase::Objects => walk_objects(finalizers, from, walk),
         Phase::Picks => walk.again_in_turn(),
         Phase::ShortWords | Phase::ShortKeyWords | Phase::Children => walk.again(),
         Phase::LatePicks | Phase::LongWords | Phase::LongKeyWords => walk.again(),
+        _ => {}
     }
 }

@@ -1,14 +1,26 @@
 //! Finalizers whose pass asks questions, and their parts.
 
-ghost use Rattle.std.specs.Prelude.{◌≡◌, None, true, false, is_some, [], IsTrue, IsFalse, IfOk, IfErr};
+ghost use Rattle.std.specs.Prelude.{◌≡◌, ◌<◌, None, is_some, length, [], IsTrue, IsFalse, IfOk, IfErr};
 ghost use Rattle.fz_finalizers.specs.States.{opening};
+ghost use Rattle.fz_machine.specs.Going.{noted_by};
+ghost use Rattle.fz_machine.specs.Machines.{by_none, none_tabled};
 
 use crate::phase::Phase;
 use crate::regions::Regions;
+use crate::tables::{asks, tables};
 use crate::walk::Walk;
 use fz_finalizers::{Finalizers, Refused};
 use std::alloc::Global;
 use std::marker::Model;
+
+/// Which questions about regions a pass asks.
+#[derive(Clone, Copy, Debug, PartialEq, Eq)]
+pub struct By {
+    /// `Ask::Marks`, about registered objects, targets of links, and objects of cleanups.
+    pub marks: bool,
+    /// `Ask::Live`, about words of links.
+    pub live: bool,
+}
 
 /// Finalizers whose pass asks one question after another, for a host that can't be called back.
 ///
@@ -16,9 +28,10 @@ use std::marker::Model;
 pub struct Machine {
     pub(crate) finalizers: Finalizers,
     pub(crate) walk: Walk,
-    pub(crate) regions: Regions,
-    /// Whether registered objects are noted in regions.
-    pub(crate) by_regions: bool,
+    /// The regions of each sweep.
+    pub(crate) tables: Vec<Regions>,
+    /// Which sweeps ask about regions.
+    pub(crate) by: By,
     pub(crate) phase: Option<Phase>,
     /// How many items the last question was about: none if it was about regions.
     pub(crate) asked: usize,
@@ -34,8 +47,8 @@ impl Drop for Machine {
         let Machine {
             finalizers: _,
             walk: _,
-            regions: _,
-            by_regions: _,
+            tables: _,
+            by: _,
             phase: _,
             asked: _,
             before: _,
@@ -45,9 +58,10 @@ impl Drop for Machine {
 }
 
 impl Model for Machine {
-    ghost use Rattle.std.specs.Prelude.{length, take};
+    ghost use Rattle.std.specs.Prelude.{length, map, take};
     ghost use Rattle.fz_machine.specs.Machines.{Machine, machine_code};
-    ghost use Rattle.fz_machine.specs.Going.{walk_by, IsInOrder};
+    ghost use Rattle.fz_machine.specs.Going.{AsksNone, IsInOrder, Lacks, asked_in, left_in, told_in};
+    ghost use Rattle.fz_machine.specs.Regions.{Regions};
 
     ghost Value = { Machine };
 
@@ -55,19 +69,20 @@ impl Model for Machine {
 
     ghost view = { λ m. record {
       finalizers = m.finalizers;
-      walk = walk_by m.finalizers.state m.walk m.regions;
+      walk = m.walk;
       phase = m.phase;
       asked = m.asked;
       before = m.before;
       from = m.from;
-      regions = take m.regions.asked m.regions.left;
-      by_regions = m.by_regions;
-      noted = m.regions.complete;
-      tabled = length m.regions.order;
-      remaining = length m.regions.left;
+      told = told_in m.tables.items m.phase;
+      remaining = length (left_in m.tables.items m.phase);
+      regions = take (asked_in m.tables.items m.phase) (left_in m.tables.items m.phase);
+      by = m.by;
+      noted = map (λ (t : Regions). t.complete) m.tables.items;
+      tabled = map (λ (t : Regions). length t.order) m.tables.items;
     } };
 
-    ghost invariant = { λ m. IsInOrder m.finalizers.state m.walk m.regions m.phase m.asked };
+    ghost invariant = { λ m. IsInOrder m.finalizers.state m.walk m.tables.items m.phase × AsksNone m.phase m.asked × Lacks m.phase m.tables.items };
 }
 
 impl Machine {
@@ -76,40 +91,36 @@ impl Machine {
         ensures refused { IfErr result (λ r. r ≡ Refused.NoMemory) }
         ensures finalizers { IfOk result (λ m. m.finalizers.state ≡ opening) }
         ensures phase { IfOk result (λ m. m.phase ≡ None) }
-        ensures noted { IfOk result (λ m. (m.by_regions ≡ false) × (m.noted ≡ false)) }
-        ensures tabled { IfOk result (λ m. m.tabled ≡ 0) }
+        ensures noted { IfOk result (λ m. (m.by ≡ by_none) × (m.noted ≡ noted_by by_none)) }
+        ensures tabled { IfOk result (λ m. m.tabled ≡ none_tabled) }
     {
-        Machine::opening(alloc, false)
+        Machine::with_regions(
+            alloc,
+            By {
+                marks: false,
+                live: false,
+            },
+        )
     }
 
-    /// The same, but a pass asks for the marks of regions (`Ask::Marks`), not about each registered object. So instead of the time for each registration it
-    /// takes time for each region with registrations, and for each of them whose object isn't marked. A new registration may take memory for a region, too. If
-    /// that can't be allocated, the registration succeeds, and from then on passes ask about each object, until `shrink` finds memory for the regions. Fails
-    /// with `NoMemory` if an allocation fails.
-    pub fn with_regions(alloc: Global) -> Result<Machine, Refused>
+    /// The same, but a pass asks about regions: by `Ask::Marks` before it asks about registered objects, targets of links or objects of cleanups, and by `Ask::Live` before it
+    /// asks about words of links. It asks about nothing else of these: so it takes time for each of their regions, and for each of them that isn't marked; and if any isn't, a
+    /// walk over the table of its kind. A registration, a link or a cleanup may take memory for its regions, too. If that can't be allocated, the call succeeds, and from then on
+    /// passes ask about each of this kind, until `shrink` finds memory for the regions. Fails with `NoMemory` if an allocation fails.
+    pub fn with_regions(alloc: Global, by: By) -> Result<Machine, Refused>
         ensures refused { IfErr result (λ r. r ≡ Refused.NoMemory) }
         ensures finalizers { IfOk result (λ m. m.finalizers.state ≡ opening) }
         ensures phase { IfOk result (λ m. m.phase ≡ None) }
-        ensures noted { IfOk result (λ m. (m.by_regions ≡ true) × (m.noted ≡ true)) }
-        ensures tabled { IfOk result (λ m. m.tabled ≡ 0) }
-    {
-        Machine::opening(alloc, true)
-    }
-
-    /// Finalizers without registrations, whose objects are noted or not.
-    fn opening(alloc: Global, by_regions: bool) -> Result<Machine, Refused>
-        ensures refused { IfErr result (λ r. r ≡ Refused.NoMemory) }
-        ensures finalizers { IfOk result (λ m. m.finalizers.state ≡ opening) }
-        ensures phase { IfOk result (λ m. m.phase ≡ None) }
-        ensures noted { IfOk result (λ m. (m.by_regions ≡ by_regions) × (m.noted ≡ by_regions)) }
-        ensures tabled { IfOk result (λ m. m.tabled ≡ 0) }
+        ensures noted { IfOk result (λ m. (m.by ≡ by) × (m.noted ≡ noted_by by)) }
+        ensures tabled { IfOk result (λ m. m.tabled ≡ none_tabled) }
     {
         let finalizers = Finalizers::new(alloc)?;
+        let tables = tables(alloc, by)?;
         Ok(Machine {
             finalizers,
             walk: Walk::new(alloc),
-            regions: Regions::new(alloc, by_regions),
-            by_regions,
+            tables,
+            by,
             phase: None,
             asked: 0,
             before: 0,
@@ -127,9 +138,12 @@ impl Machine {
     /// Whether the last question was about regions: then `next_marks` takes its answers, and else `next_bits`.
     pub fn asks_marks(&self) -> bool
         ensures items { IsFalse result → self.now.regions ≡ [] }
-        ensures regions { IsTrue result → self.now.asked ≡ 0 }
+        ensures regions { IsTrue result → (self.now.asked ≡ 0) × (0 < length self.now.regions) }
     {
-        self.regions.asked() > 0 && self.regions.first().is_some()
+        match self.phase {
+            Some(Phase::Regions(sweep)) => asks(&self.tables, sweep),
+            _ => false,
+        }
     }
 
     /// Whether a pass is open.

@@ -4,7 +4,7 @@ ghost use Rattle.std.specs.Prelude.{◌≡◌, ◌+◌, [], take, None, Some, On
 ghost use Rattle.fz_finalizers.specs.Follows.{next_pass};
 ghost use Rattle.fz_machine.specs.Asks.{bits_of};
 ghost use Rattle.fz_machine.specs.Causes.{IsJudgedBy};
-ghost use Rattle.fz_machine.specs.Machines.{IsBegun, IsBegunFrom, GoesTo, Writes, next_of};
+ghost use Rattle.fz_machine.specs.Machines.{Answers, IsBegun, IsBegunFrom, GoesTo, Writes, next_of};
 ghost use Rattle.fz_machine.specs.declared.refused.Refused.TheVariants.{NoPass};
 
 use crate::answers::answers_in;
@@ -15,6 +15,7 @@ use crate::machine::Machine;
 use crate::phase::{Moment, Phase};
 use crate::question::{Ask, BATCH, Question};
 use crate::refused::Refused;
+use crate::tables;
 use fz_finalizers::{Addr, Passed};
 
 /// What a pass returns next.
@@ -50,10 +51,9 @@ impl Machine {
 
     /// Opens a pass that looks only at registrations and cleanups whose numbers are at least this, and returns its number. It is the same pass as one that `begin`
     /// opens if the objects of all others are marked: so a host with generations begins it from the number that the next registration had when its old objects
-    /// were young. If such an object isn't marked, it isn't asked about, and stays registered, and so does a cleanup; but by regions (`Machine::with_regions`) a pass
-    /// comes to each registered object. Links and ephemerons are looked at as by any pass.
+    /// were young. If such an object isn't marked, it isn't asked about, and stays registered, and so does a cleanup. Links and ephemerons are looked at as by any pass.
     ///
-    /// Such a pass asks nothing about old registrations and cleanups, but walks over their tables. Fails with `PassOpen`.
+    /// Such a pass asks no items of old registrations and cleanups, but walks over their tables. Fails with `PassOpen`.
     pub fn begin_from(&mut self, from: u64) -> Result<u64, Refused>
         ensures judged { IsJudgedBy self.old.phase [] result }
         ensures refused { OnErr result (self.new ≡ self.old) }
@@ -67,7 +67,7 @@ impl Machine {
         self.before = self.finalizers.queued();
         self.walk.clear();
         let phase = Phase::Keys(Moment::First);
-        begin(&self.finalizers, &mut self.walk, from, phase);
+        begin(&self.finalizers, &mut self.walk, phase);
         self.phase = Some(phase);
         self.from = from;
         self.asked = 0;
@@ -78,7 +78,7 @@ impl Machine {
     fn proceed(&mut self, answers: &[bool], about: &mut [Addr; BATCH]) -> Result<Step, Refused>
         ensures refused { OnErr result ((self.old.phase ≡ None) × (self.new ≡ self.old) × (about.new ≡ about.old)) }
         ensures cause { IfErr result (λ r. r ≡ NoPass) }
-        ensures goes { IfOk result (λ step. GoesTo self.old (take self.old.asked answers.now) self.new (next_of step about.new)) }
+        ensures goes { IfOk result (λ step. GoesTo self.old (Answers (take self.old.asked answers.now)) self.new (next_of step about.new)) }
         ensures written { IfOk result (λ step. Writes step about.old about.new) }
     {
         let Some(phase) = self.phase else {
@@ -97,13 +97,13 @@ impl Machine {
     /// Proceeds to the next question, whose objects, words or regions it writes, or to the end.
     pub(crate) fn ask(&mut self, phase: Phase, about: &mut [Addr; BATCH]) -> Step
         requires { self.old.phase ≡ Some phase }
-        ensures goes { GoesTo self.old [] self.new (next_of result about.new) }
+        ensures goes { GoesTo self.old (Answers []) self.new (next_of result about.new) }
         ensures written { Writes result about.old about.new }
     {
         self.phase = go_on(
             &mut self.finalizers,
             &mut self.walk,
-            &mut self.regions,
+            &mut self.tables,
             self.from,
             phase,
         );
@@ -114,10 +114,10 @@ impl Machine {
                 picked: self.finalizers.queued().saturating_sub(self.before),
             });
         };
-        let count = self.regions.ask(about);
-        if count > 0 {
+        if let Phase::Regions(sweep) = phase {
+            let count = tables::ask(&mut self.tables, sweep, about);
             return Step::Asks {
-                ask: Ask::Marks,
+                ask: sweep.ask(),
                 count,
             };
         }
@@ -134,7 +134,7 @@ impl Machine {
     pub fn next(&mut self, answers: &[bool]) -> Result<Next, Refused>
         ensures refused { OnErr result ((self.old.phase ≡ None) × (self.new ≡ self.old)) }
         ensures cause { IfErr result (λ r. r ≡ NoPass) }
-        ensures goes { IfOk result (GoesTo self.old (take self.old.asked answers.now) self.new) }
+        ensures goes { IfOk result (GoesTo self.old (Answers (take self.old.asked answers.now)) self.new) }
     {
         let mut about = [0; BATCH];
         match self.proceed(answers, &mut about) {
@@ -151,7 +151,7 @@ impl Machine {
     pub fn next_bits(&mut self, answers: u64, about: &mut [Addr; BATCH]) -> Result<Step, Refused>
         ensures refused { OnErr result ((self.old.phase ≡ None) × (self.new ≡ self.old) × (about.new ≡ about.old)) }
         ensures cause { IfErr result (λ r. r ≡ NoPass) }
-        ensures goes { IfOk result (λ step. GoesTo self.old (take self.old.asked (bits_of answers)) self.new (next_of step about.new)) }
+        ensures goes { IfOk result (λ step. GoesTo self.old (Answers (take self.old.asked (bits_of answers))) self.new (next_of step about.new)) }
         ensures written { IfOk result (λ step. Writes step about.old about.new) }
     {
         let answers = answers_in(answers, self.asked);

@@ -1,7 +1,8 @@
 //! The phases of a pass: those of bdwgc's finalize.c in its order, between two that queue cleanups, with those for ephemerons.
 
-ghost use Rattle.std.specs.Prelude.{◌≡◌};
-ghost use Rattle.fz_machine.specs.Phases.{behind, next_phase, child_ask, pick_ask, asks, subject, keeps, settles, is_objects};
+ghost use Rattle.std.specs.Prelude.{◌≡◌, is_some, IfSome};
+ghost use Rattle.fz_machine.specs.Regions.{index_of};
+ghost use Rattle.fz_machine.specs.Phases.{behind, next_phase, child_ask, pick_ask, ask_of, asks, is_swept, subject, keeps, settles, swept, sweep_ask};
 
 use crate::item::Item;
 use crate::question::Ask;
@@ -27,10 +28,72 @@ impl Moment {
         ensures { result ≡ behind self }
     {
         match self {
-            Moment::First => Phase::ShortCleanups,
+            Moment::First => Phase::Regions(Sweep::ShortCleanups),
             Moment::Led => Phase::Again,
             Moment::Picked => Phase::LateAgain,
-            Moment::Last => Phase::LongTargets,
+            Moment::Last => Phase::Regions(Sweep::LongTargets),
+        }
+    }
+}
+
+/// The phases before which a pass asks about regions: which of the objects, or the words, that the phase would ask about are marked, or lie in marked objects. The phase
+/// leaves those out, and asks about no other whose region was answered for.
+#[derive(Clone, Copy, Debug, PartialEq, Eq)]
+pub enum Sweep {
+    /// The objects of short cleanups.
+    ShortCleanups,
+    /// The targets of short links.
+    ShortTargets,
+    /// The registered objects.
+    Objects,
+    /// The targets of long links.
+    LongTargets,
+    /// The words of short links.
+    ShortHolders,
+    /// The words of long links.
+    LongHolders,
+    /// The objects of long cleanups.
+    LongCleanups,
+}
+
+impl Sweep {
+    /// Its number, in the order of a pass.
+    pub(crate) fn index(self) -> usize
+        ensures { result ≡ index_of self }
+    {
+        match self {
+            Sweep::ShortCleanups => 0,
+            Sweep::ShortTargets => 1,
+            Sweep::Objects => 2,
+            Sweep::LongTargets => 3,
+            Sweep::ShortHolders => 4,
+            Sweep::LongHolders => 5,
+            Sweep::LongCleanups => 6,
+        }
+    }
+
+    /// The phase that follows.
+    fn behind(self) -> Phase
+        ensures { result ≡ swept self }
+    {
+        match self {
+            Sweep::ShortCleanups => Phase::ShortCleanups,
+            Sweep::ShortTargets => Phase::ShortTargets,
+            Sweep::Objects => Phase::Objects,
+            Sweep::LongTargets => Phase::LongTargets,
+            Sweep::ShortHolders => Phase::ShortHolders,
+            Sweep::LongHolders => Phase::LongHolders,
+            Sweep::LongCleanups => Phase::LongCleanups,
+        }
+    }
+
+    /// What it asks about regions.
+    pub(crate) fn ask(self) -> Ask
+        ensures { result ≡ sweep_ask self }
+    {
+        match self {
+            Sweep::ShortHolders | Sweep::LongHolders => Ask::Live,
+            _ => Ask::Marks,
         }
     }
 }
@@ -46,6 +109,8 @@ pub enum Phase {
     Holders(Moment),
     /// Marks the values of those with marked keys and holders.
     Values(Moment),
+    /// Asks about regions, before another phase.
+    Regions(Sweep),
     /// Asks which objects of short cleanups are marked, and queues the cleanups of the others, by rank, then number.
     ShortCleanups,
     /// Asks which targets of short links are marked.
@@ -120,11 +185,12 @@ impl Phase {
             Phase::Holders(moment) => Some(Phase::Values(moment)),
             Phase::Values(moment) if again => Some(Phase::KeysAgain(moment)),
             Phase::Values(moment) => Some(moment.behind()),
-            Phase::ShortCleanups => Some(Phase::ShortTargets),
+            Phase::Regions(sweep) => Some(sweep.behind()),
+            Phase::ShortCleanups => Some(Phase::Regions(Sweep::ShortTargets)),
             Phase::ShortTargets => Some(Phase::ShortWords),
             Phase::ShortWords => Some(Phase::ShortKeys),
             Phase::ShortKeys => Some(Phase::ShortKeyWords),
-            Phase::ShortKeyWords => Some(Phase::Objects),
+            Phase::ShortKeyWords => Some(Phase::Regions(Sweep::Objects)),
             Phase::Objects => Some(Phase::Children),
             Phase::Children => Some(Phase::Keys(Moment::Led)),
             Phase::Again => Some(Phase::Picks),
@@ -134,11 +200,11 @@ impl Phase {
             Phase::LongTargets => Some(Phase::LongWords),
             Phase::LongWords => Some(Phase::LongKeys),
             Phase::LongKeys => Some(Phase::LongKeyWords),
-            Phase::LongKeyWords => Some(Phase::ShortHolders),
-            Phase::ShortHolders => Some(Phase::LongHolders),
+            Phase::LongKeyWords => Some(Phase::Regions(Sweep::ShortHolders)),
+            Phase::ShortHolders => Some(Phase::Regions(Sweep::LongHolders)),
             Phase::LongHolders => Some(Phase::ShortKeyHolders),
             Phase::ShortKeyHolders => Some(Phase::LongKeyHolders),
-            Phase::LongKeyHolders => Some(Phase::LongCleanups),
+            Phase::LongKeyHolders => Some(Phase::Regions(Sweep::LongCleanups)),
             Phase::LongCleanups => None,
         }
     }
@@ -153,21 +219,39 @@ impl Phase {
         }
     }
 
-    /// Whether it asks which registered objects are marked.
-    pub(crate) fn is_objects(self) -> bool
-        ensures { result ≡ is_objects self }
+    /// The sweep that comes before it, if one does.
+    pub(crate) fn sweep(self) -> Option<Sweep>
+        ensures some { IfSome result (λ sweep. self ≡ swept sweep) }
+        ensures swept { is_some result ≡ is_swept self }
     {
         match self {
-            Phase::Objects => true,
-            _ => false,
+            Phase::ShortCleanups => Some(Sweep::ShortCleanups),
+            Phase::ShortTargets => Some(Sweep::ShortTargets),
+            Phase::Objects => Some(Sweep::Objects),
+            Phase::LongTargets => Some(Sweep::LongTargets),
+            Phase::ShortHolders => Some(Sweep::ShortHolders),
+            Phase::LongHolders => Some(Sweep::LongHolders),
+            Phase::LongCleanups => Some(Sweep::LongCleanups),
+            _ => None,
         }
     }
 
-    /// What it asks about an item.
+    /// What it asks about an item, unless that is known to be false.
     pub(crate) fn asks(self, item: &Item) -> Option<Ask>
         ensures { result ≡ asks self item.now }
     {
+        if item.known && self.sweep().is_some() {
+            return None;
+        }
+        self.ask_of(item)
+    }
+
+    /// What it asks about an item of which it knows nothing.
+    fn ask_of(self, item: &Item) -> Option<Ask>
+        ensures { result ≡ ask_of self item.now }
+    {
         match self {
+            Phase::Regions(_) => None,
             Phase::Keys(_) | Phase::KeysAgain(_) => Some(Ask::IsMarked),
             Phase::Holders(_) => Some(Ask::IsHolderMarked),
             Phase::Values(_) => Some(Ask::MarkValue),
@@ -190,7 +274,7 @@ impl Phase {
         ensures { result ≡ subject self item.now }
     {
         match self {
-            Phase::Keys(_) | Phase::KeysAgain(_) => item.object,
+            Phase::Keys(_) | Phase::KeysAgain(_) | Phase::Regions(_) => item.object,
             Phase::Holders(_) | Phase::Values(_) => item.word,
             Phase::ShortWords | Phase::LongWords => item.word,
             Phase::ShortKeyWords | Phase::LongKeyWords => item.word,
@@ -215,7 +299,7 @@ impl Phase {
             Phase::Objects | Phase::Again | Phase::LateAgain => !yes,
             Phase::Children => true,
             Phase::Picks => item.kind == Kind::Unreachable,
-            Phase::Values(_) => false,
+            Phase::Values(_) | Phase::Regions(_) => false,
             Phase::ShortWords | Phase::LongWords | Phase::LatePicks => false,
             Phase::ShortKeyWords | Phase::LongKeyWords => false,
             Phase::ShortHolders | Phase::LongHolders => false,

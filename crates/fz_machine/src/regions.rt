@@ -1,10 +1,9 @@
-//! Where registered objects may begin.
+//! Where the objects and the words of items may lie, and what was told about them.
 
-ghost use Rattle.std.specs.Prelude.{◌≡◌, ◌≤◌, ◌<◌, ◌+◌, ◌*◌, ◌^◌, ◌∷◌, ℕ, [], true, false, min, drop, take, length, reverse, slice_get, All, Some, IfSome, IsOk, IsTrue, OnOk};
-ghost use Rattle.std.specs.Map.{keys_of};
-ghost use Rattle.fz_model.specs.Bits.{has_bit};
+ghost use Rattle.std.specs.Prelude.{◌≡◌, ◌≤◌, ◌<◌, ◌+◌, ◌*◌, ◌^◌, ◌++◌, ℕ, [], ◌∷◌, nat_eq, min, drop, take, length, zip, slice_get, is_some, All, IsOk, IsTrue, IsFalse, OnOk, OnSome};
+ghost use Rattle.std.specs.Map.{keys_of, lookup};
 ghost use Rattle.fz_machine.specs.declared.question.TheConstants.{BATCH};
-ghost use Rattle.fz_machine.specs.Regions.{place_in, places, region_of, AreRegions, IsNoted};
+ghost use Rattle.fz_machine.specs.Regions.{place_in, region_of, is_marked, is_unmarked, begun, stopped, IsNoted, IsLooked, IsUntold, IsWhole, KeepsTable};
 
 use crate::question::BATCH;
 use fz_model::Addr;
@@ -19,22 +18,22 @@ const STEP: u64 = 16;
 /// The number of places of a region: one for each bit of a word.
 pub(crate) const PLACES: u64 = 64;
 
-/// An object's place in its region.
-pub(crate) fn place_in(object: Addr) -> u64
-    ensures { result ≡ place_in object }
+/// The place of an object or a word in its region.
+pub(crate) fn place_in(n: Addr) -> u64
+    ensures { result ≡ place_in n }
 {
-    object / STEP % PLACES
+    n / STEP % PLACES
 }
 
-/// The first address of an object's region.
-pub(crate) fn region_of(object: Addr) -> Addr
-    ensures { result ≡ region_of object }
+/// The first address of the region of an object or a word.
+pub(crate) fn region_of(n: Addr) -> Addr
+    ensures { result ≡ region_of n }
 {
-    object - STEP * place_in(object)
+    n - STEP * place_in(n)
 }
 
-/// The object that begins at a place of a region.
-pub(crate) fn object_at(region: Addr, place: u64) -> Addr
+/// The address of a place of a region.
+pub(crate) fn address_of(region: Addr, place: u64) -> Addr
     requires { region + 16 * place < 2 ^ 64 }
     ensures { result ≡ region + 16 * place }
 {
@@ -49,25 +48,21 @@ pub(crate) fn bit(place: u64) -> u64
     1 << place
 }
 
-/// The lowest place whose bit is set, and the other bits.
-pub(crate) fn lowest(bits: u64) -> (u64, u64)
-    requires { 0 < bits }
-    ensures within { result.0 < 64 }
-    ensures places { places bits ≡ result.0 ∷ places result.1 }
-    ensures set { (has_bit bits result.0 ≡ true) × (has_bit result.1 result.0 ≡ false) }
-    ensures others { (place : ℕ) → place < 64 → (place ≡ result.0 → ⊥) → has_bit result.1 place ≡ has_bit bits place }
-{
-    let place = u64::from(bits.trailing_zeros());
-    (place, bits & !bit(place))
+/// A region: the bits of its noted places, and the word that was told of it.
+#[derive(Clone, Copy, Debug, PartialEq, Eq)]
+pub struct Noted {
+    pub places: u64,
+    pub told: u64,
 }
 
-/// The regions of objects, each with a bit for each place where a registered object may begin. During a pass, also which of them remain to be processed.
+/// The regions that a sweep asks about, each with a bit for each place where an object, or a word, may lie.
 pub(crate) struct Regions {
-    noted: IndexMap<Addr, u64, AddressHasher>,
-    /// Whether each registered object is noted. If not, a pass asks about objects, not regions.
+    noted: IndexMap<Addr, Noted, AddressHasher>,
+    /// Whether all is noted that the sweep is about. If not, it asks about no regions.
     complete: bool,
-    /// How many remain to be processed: the first ones, from the last of them on.
-    left: usize,
+    /// In an open sweep: how many regions it asks about, the first ones, and of how many of them it was told.
+    end: usize,
+    heard: usize,
     /// How many the last question was about.
     asked: usize,
 }
@@ -78,34 +73,43 @@ impl Drop for Regions {
         let Regions {
             noted: _,
             complete: _,
-            left: _,
+            end: _,
+            heard: _,
             asked: _,
         } = self;
     }
 }
 
 impl Model for Regions {
-    ghost use Rattle.std.specs.Prelude.{◌≤◌, length, reverse, take};
-    ghost use Rattle.fz_machine.specs.Regions.{Regions, regions_code, AreRegions};
+    ghost use Rattle.std.specs.Prelude.{◌≤◌, drop, length, map, take};
+    ghost use Rattle.std.specs.Map.{keys_of};
+    ghost use Rattle.fz_machine.specs.Regions.{Regions, regions_code, placed, worded, AreRegions};
 
     ghost Value = { Regions };
 
     ghost coded = { regions_code };
 
-    ghost view = { λ r. record { order = r.noted.entries; left = reverse (take r.left r.noted.entries); asked = r.asked; complete = r.complete } };
+    ghost view = { λ r. record {
+      order = map placed r.noted.entries;
+      told = map worded (take r.heard r.noted.entries);
+      left = keys_of (drop r.heard (take r.end r.noted.entries));
+      asked = r.asked;
+      complete = r.complete;
+    } };
 
-    ghost invariant = { λ r. (r.left ≤ length r.noted.entries) × AreRegions r.noted.entries };
+    ghost invariant = { λ r. (r.heard ≤ r.end) × (r.end ≤ length r.noted.entries) × AreRegions r.noted.entries };
 }
 
 impl Regions {
-    /// No regions. Objects are noted only if `complete`.
+    /// No regions. Something is noted only if `complete`.
     pub(crate) fn new(alloc: Global, complete: bool) -> Regions
-        ensures { result ≡ record { order = []; left = []; asked = 0; complete = complete } }
+        ensures { result ≡ record { order = []; told = []; left = []; asked = 0; complete = complete } }
     {
         Regions {
             noted: IndexMap::with_hasher(alloc, AddressHasher::new()),
             complete,
-            left: 0,
+            end: 0,
+            heard: 0,
             asked: 0,
         }
     }
@@ -115,90 +119,94 @@ impl Regions {
         *self.noted.allocator()
     }
 
-    /// Whether each registered object is noted.
+    /// Whether all is noted.
     pub(crate) fn is_complete(&self) -> bool
         ensures { result ≡ self.now.complete }
     {
         self.complete
     }
 
-    /// Notes an object in its region.
-    fn note_there(&mut self, object: Addr) -> Result<(), AllocError>
-        requires idle { self.old.left ≡ [] }
-        ensures same { (self.new.left ≡ []) × (self.new.asked ≡ self.old.asked) × (self.new.complete ≡ self.old.complete) }
-        ensures noted { OnOk result (IsNoted self.new.order object) }
-        ensures stays { IsNoted self.old.order object → IsOk result }
+    /// Sets the bit of an object or a word, if its region is there, and returns the word that was told of the region.
+    fn place(&mut self, n: Addr) -> Option<u64>
+        ensures same { self.new ≡ record self.old { order = self.new.order } }
+        ensures keys { keys_of self.new.order ≡ keys_of self.old.order }
+        ensures kept { (other : ℕ) → IsNoted self.old.order other → IsNoted self.new.order other }
+        ensures noted { OnSome result (IsNoted self.new.order n) }
+        ensures there { is_some result ≡ is_some (lookup (nat_eq (region_of n)) self.old.order) }
+        ensures told { keys_of self.old.told ≡ keys_of self.old.order → result ≡ lookup (nat_eq (region_of n)) self.old.told }
+    {
+        let region = region_of(n);
+        let place = bit(place_in(n));
+        let Some(noted) = self.noted.get_mut(&region) else {
+            return None;
+        };
+        let told = noted.told;
+        *noted = Noted {
+            places: noted.places | place,
+            told,
+        };
+        Some(told)
+    }
+
+    /// Notes an object or a word in its region.
+    fn note_there(&mut self, n: Addr) -> Result<(), AllocError>
+        ensures same { self.new ≡ record self.old { order = self.new.order } }
+        ensures noted { OnOk result (IsNoted self.new.order n) }
+        ensures stays { IsNoted self.old.order n → IsOk result }
         ensures kept { (other : ℕ) → IsNoted self.old.order other → IsNoted self.new.order other }
         ensures tabled { length self.new.order ≤ length self.old.order + 1 }
     {
-        let region = region_of(object);
-        let place = bit(place_in(object));
-        if let Some(bits) = self.noted.get_mut(&region) {
-            *bits |= place;
+        if self.place(n).is_some() {
             return Ok(());
         }
-        match self.noted.insert(region, place) {
+        let noted = Noted {
+            places: bit(place_in(n)),
+            told: 0,
+        };
+        match self.noted.insert(region_of(n), noted) {
             Ok(_) => Ok(()),
             Err(_) => Err(AllocError),
         }
     }
 
-    /// Notes an object that is to be registered. Without memory for it the regions aren't complete any more.
-    pub(crate) fn note(&mut self, object: Addr)
-        requires idle { self.old.left ≡ [] }
-        ensures same { (self.new.left ≡ []) × (self.new.asked ≡ self.old.asked) }
-        ensures complete { IsTrue self.new.complete → IsTrue self.old.complete × IsNoted self.new.order object }
-        ensures stays { IsNoted self.old.order object → self.new.complete ≡ self.old.complete }
-        ensures kept { (other : ℕ) → IsNoted self.old.order other → IsNoted self.new.order other }
+    /// Notes an object or a word. Without memory for its region the table isn't complete any more.
+    pub(crate) fn note(&mut self, n: Addr)
+        ensures keeps { KeepsTable self.old self.new }
+        ensures noted { IsTrue self.new.complete → IsNoted self.new.order n }
+        ensures stays { IsNoted self.old.order n → self.new.complete ≡ self.old.complete }
         ensures tabled { length self.new.order ≤ length self.old.order + 1 }
     {
-        if self.complete && self.note_there(object).is_err() {
+        if self.complete && self.note_there(n).is_err() {
             self.complete = false;
         }
     }
 
-    /// Begins to process all regions.
+    /// Opens a sweep over all regions, if the table is complete.
     pub(crate) fn begin(&mut self)
-        ensures begun { self.new ≡ record self.old { left = reverse self.old.order; asked = 0 } }
-        ensures regions { AreRegions self.old.order }
+        ensures { self.new ≡ begun self.old }
     {
-        self.left = self.noted.len();
+        self.heard = 0;
+        self.end = 0;
         self.asked = 0;
-    }
-
-    /// Ends it early.
-    pub(crate) fn stop(&mut self)
-        ensures { self.new ≡ record self.old { left = []; asked = 0 } }
-    {
-        self.left = 0;
-        self.asked = 0;
-    }
-
-    /// The region to process next, and its bits.
-    pub(crate) fn first(&self) -> Option<(Addr, u64)>
-        ensures first { result ≡ slice_get self.now.left 0 }
-        ensures begin { IfSome result (λ r. place_in r.0 ≡ 0) }
-        ensures noted { IfSome result (λ r. (object : ℕ) → region_of object ≡ r.0 → IsNoted self.now.order object → IsTrue (has_bit r.1 (place_in object))) }
-    {
-        let (region, bits) = self.noted.get_index(self.left.checked_sub(1)?)?;
-        Some((*region, *bits))
-    }
-
-    /// Moves past the region to process next. These of its bits stay. If none does, the region goes.
-    pub(crate) fn pass_on(&mut self, region: Addr, bits: u64)
-        requires first { (old : ℕ) × (slice_get self.old.left 0 ≡ Some (region, old)) }
-        ensures left { self.new.left ≡ drop 1 self.old.left }
-        ensures tabled { length self.new.order ≤ length self.old.order }
-        ensures same { (self.new.asked ≡ self.old.asked) × (self.new.complete ≡ self.old.complete) }
-        ensures others { (object : ℕ) → (region_of object ≡ region → ⊥) → IsNoted self.old.order object → IsNoted self.new.order object }
-        ensures noted { (object : ℕ) → region_of object ≡ region → IsTrue (has_bit bits (place_in object)) → IsNoted self.new.order object }
-    {
-        self.left -= 1;
-        if bits == 0 {
-            self.noted.swap_remove_index(self.left);
-        } else {
-            self.noted[self.left] = bits;
+        if self.complete {
+            self.end = self.noted.len();
         }
+    }
+
+    /// Ends a sweep early.
+    pub(crate) fn stop(&mut self)
+        ensures { self.new ≡ stopped self.old }
+    {
+        self.heard = 0;
+        self.end = 0;
+        self.asked = 0;
+    }
+
+    /// Whether it isn't told yet of some region.
+    pub(crate) fn has_left(&self) -> bool
+        ensures { result ≡ is_some (slice_get self.now.left 0) }
+    {
+        self.heard < self.end
     }
 
     /// How many regions the last question was about.
@@ -208,16 +216,16 @@ impl Regions {
         self.asked
     }
 
-    /// Writes the first addresses of the regions to process next, as many as fit, and returns their number.
+    /// Writes the first addresses of the next regions, as many as fit, and returns their number.
     pub(crate) fn ask(&mut self, about: &mut [Addr; BATCH]) -> usize
         ensures count { result ≡ min BATCH (length self.old.left) }
         ensures asked { self.new ≡ record self.old { asked = result } }
-        ensures about { take result about.new ≡ keys_of (take result self.old.left) }
-        ensures begin { All (λ (r : ℕ × ℕ). place_in r.0 ≡ 0) (take result self.old.left) }
+        ensures about { take result about.new ≡ take result self.old.left }
+        ensures begin { All (λ region. place_in region ≡ 0) (take result self.old.left) }
     {
         let mut count = 0;
-        while count < BATCH && count < self.left {
-            let Some((region, _)) = self.noted.get_index(self.left - 1 - count) else {
+        while count < BATCH && count < self.end - self.heard {
+            let Some((region, _)) = self.noted.get_index(self.heard + count) else {
                 break;
             };
             about[count] = *region;
@@ -225,6 +233,109 @@ impl Regions {
         }
         self.asked = count;
         count
+    }
+
+    /// Is told of the next region, if there is one.
+    fn hear_one(&mut self, word: u64)
+        ensures { self.new ≡ record self.old { told = self.old.told ++ zip self.old.left (word ∷ []); left = drop 1 self.old.left } }
+    {
+        if self.heard < self.end {
+            let places = self.noted[self.heard].places;
+            self.noted[self.heard] = Noted { places, told: word };
+            self.heard += 1;
+        }
+    }
+
+    /// Is told of the regions that the last question was about.
+    pub(crate) fn hear(&mut self, words: &[u64; BATCH])
+        ensures told { self.new.told ≡ self.old.told ++ zip (take self.old.asked self.old.left) words.now }
+        ensures left { self.new.left ≡ drop (min self.old.asked BATCH) self.old.left }
+        ensures same { self.new ≡ record self.old { told = self.new.told; left = self.new.left } }
+    {
+        for word in &words[..self.asked.min(BATCH)] {
+            self.hear_one(*word);
+        }
+    }
+
+    /// Whether each noted place was told marked.
+    fn is_all_marked(&self) -> bool
+        requires whole { keys_of self.now.told ≡ keys_of self.now.order }
+        ensures { IsTrue result → (n : ℕ) → IsNoted self.now.order n → IsTrue (is_marked self.now.told n) }
+    {
+        let mut index = 0;
+        while index < self.noted.len() {
+            let noted = self.noted[index];
+            if noted.places & noted.told != noted.places {
+                return false;
+            }
+            index += 1;
+        }
+        true
+    }
+
+    /// Forgets which places are noted.
+    fn forget(&mut self)
+        ensures same { self.new ≡ record self.old { order = self.new.order } }
+        ensures keys { keys_of self.new.order ≡ keys_of self.old.order }
+    {
+        let mut index = 0;
+        while index < self.noted.len() {
+            let told = self.noted[index].told;
+            self.noted[index] = Noted { places: 0, told };
+            index += 1;
+        }
+    }
+
+    /// Whether the phase behind a sweep has anything to list: not if all that is noted was told marked. If so, forgets which places are noted: `look` notes them
+    /// again.
+    pub(crate) fn lists(&mut self) -> bool
+        requires whole { IsTrue self.old.complete → keys_of self.old.told ≡ keys_of self.old.order }
+        ensures none { IsFalse result → IsTrue self.old.complete × ((n : ℕ) → IsNoted self.old.order n → IsTrue (is_marked self.old.told n)) × (self.new ≡ self.old) }
+        ensures same { self.new ≡ record self.old { order = self.new.order } }
+        ensures keys { keys_of self.new.order ≡ keys_of self.old.order }
+    {
+        if !self.complete {
+            return true;
+        }
+        if self.is_all_marked() {
+            return false;
+        }
+        self.forget();
+        true
+    }
+
+    /// Notes an object or a word that a table holds, and returns whether it was told marked, and whether it was told unmarked.
+    pub(crate) fn look(&mut self, n: Addr) -> (bool, bool)
+        requires { IsWhole self.old }
+        ensures marked { result.0 ≡ is_marked self.old.told n }
+        ensures unmarked { result.1 ≡ is_unmarked self.old.told n }
+        ensures looked { IsLooked n self.old self.new }
+    {
+        if !self.complete {
+            return (false, false);
+        }
+        let Some(word) = self.place(n) else {
+            return (false, false);
+        };
+        let marked = word & bit(place_in(n)) != 0;
+        (marked, !marked)
+    }
+
+    /// Ends a sweep. Regions without noted places go.
+    pub(crate) fn end(&mut self)
+        ensures untold { IsUntold self.new }
+        ensures same { self.new.complete ≡ self.old.complete }
+        ensures noted { (n : ℕ) → IsNoted self.old.order n → IsNoted self.new.order n }
+        ensures fewer { length self.new.order ≤ length self.old.order }
+    {
+        self.stop();
+        let mut index = self.noted.len();
+        while index > 0 {
+            index -= 1;
+            if self.noted[index].places == 0 {
+                self.noted.swap_remove_index(index);
+            }
+        }
     }
 
     /// Frees memory that isn't needed.

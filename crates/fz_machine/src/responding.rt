@@ -1,10 +1,10 @@
 //! Answers of a host that can be called.
 
-ghost use Rattle.std.specs.Prelude.{◌+◌, ◌<◌, ◌^◌};
-ghost use Rattle.fz_machine.specs.Graph.{MayAsk, Answers, IsHonestWord, graph_of, no_value};
+ghost use Rattle.std.specs.Prelude.{◌≡◌, ◌+◌, ◌<◌, ◌^◌};
+ghost use Rattle.fz_machine.specs.Graph.{MayAsk, Answers, IsTrueWord, graph_of, is_told, no_value};
 
 use crate::question::Ask;
-use crate::regions::{PLACES, bit, object_at};
+use crate::regions::{PLACES, address_of, bit};
 use fz_model::Addr;
 use fz_pass::{Host, Values};
 
@@ -38,7 +38,17 @@ pub fn respond<H: Host>(host: &mut H, ask: Ask, subject: Addr) -> bool
             false
         }
         Ask::IsHolderMarked => host.is_holder_marked(subject),
-        Ask::Marks | Ask::MarkValue => false,
+        Ask::Marks | Ask::Live | Ask::MarkValue => false,
+    }
+}
+
+/// What a host that can be called says about a place of a region.
+fn is_told<H: Host>(host: &H, ask: Ask, n: Addr) -> bool
+    ensures { result ≡ is_told H.place ask (graph_of (H.objects host.now) (H.marked host.now)) n }
+{
+    match ask {
+        Ask::Live => host.is_holder_marked(n),
+        _ => host.is_marked(n),
     }
 }
 
@@ -54,17 +64,17 @@ pub fn respond_with_values<H: Values>(host: &mut H, ask: Ask, subject: Addr) -> 
     }
 }
 
-/// Asks a host that can be called for the marks of a region, which is named by its first address.
-/// The last of its places has to have an address.
-pub fn respond_marks<H: Host>(host: &H, region: Addr) -> u64
+/// Asks a host that can be called `Marks` or `Live` about a region, which is named by its first address. The word is true of each of its places.
+/// The last of them has to have an address.
+pub fn respond_marks<H: Host>(host: &H, ask: Ask, region: Addr) -> u64
     requires { region + 1_008 < 2 ^ 64 }
-    ensures honest { IsHonestWord (graph_of (H.objects host.now) (H.marked host.now)) region result }
+    ensures honest { IsTrueWord H.place ask (graph_of (H.objects host.now) (H.marked host.now)) region result }
 {
-    let mut marks = 0;
+    let mut word = 0;
     for place in 0..PLACES {
-        if host.is_marked(object_at(region, place)) {
-            marks |= bit(place);
+        if is_told(host, ask, address_of(region, place)) {
+            word |= bit(place);
         }
     }
-    marks
+    word
 }

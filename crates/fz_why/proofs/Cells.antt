@@ -1,7 +1,8 @@
 -- The words of a copy, and the objects whose words they are.
-use Rattle.std.proofs.Common.{◌≡◌, ◌≢◌, ℕ, ◌+◌, ◌-◌, ◌^◌, ◌<◌, ◌≤◌, ◌⊎◌, ◌++◌, ◌||◌, Bool, true, false, if◌then◌else◌, is_some, nat_cmp, nat_eq, List, [], ◌∷◌, length, slice_get, get_or, Option, Some, None, option_map, option_and_then, refl, sym, ap, ◌∙◌, subst, inl, inr, ⊎_elim, arith, zero, suc}
+use Rattle.std.proofs.Common.{◌≡◌, ◌≢◌, ℕ, ◌+◌, ◌-◌, ◌^◌, ◌<◌, ◌≤◌, ◌⊎◌, ◌++◌, ◌||◌, Bool, true, false, if◌then◌else◌, is_some, nat_cmp, nat_eq, List, [], ◌∷◌, length, slice_get, slice_index, get_or, Option, Some, None, option_map, option_and_then, refl, sym, ap, ◌∙◌, subst, inl, inr, ⊎_elim, arith, zero, suc}
 use Rattle.std.proofs.lemmas.Bool.{cases_eq, eqb-true, eq-eqb, both_ways, or_parts}
-use Rattle.std.proofs.lemmas.Option.{none-some, same_Some, slice_get_within, slice_get-get_or}
+use Rattle.std.proofs.lemmas.Option.{none-some, same_Some, slice_get_within, slice_get-get_or, get_or_from_slice_get}
+use Rattle.std.specs.Prelude.{unwrap_or}
 use Rattle.std.specs.FinMap.{get, empty, get-empty, contains_key}
 use Rattle.std.specs.Map.{lookup}
 use Rattle.std.specs.Option.{option_map_or}
@@ -9,15 +10,17 @@ use Rattle.fz_model.specs.declared.kinds.ObjKind.TheVariants.{Scanned}
 use Rattle.fz_model.specs.declared.extent.Extent.{Extent}
 use Rattle.fz_model.specs.State.{Map, Object}
 use Rattle.fz_model.specs.Extents.{covers, extents, extent_of, AreApart}
-use Rattle.fz_model.specs.Memory.{points}
+use Rattle.fz_model.specs.Memory.{points, word_at}
 use Rattle.fz_model.proofs.Lists.{slice_get-left, slice_get-right, slice_get-cases}
 use Rattle.fz_model.proofs.Maps.{get-insert_same, get-insert_other, get-extents, not_some}
 use Rattle.fz_model.proofs.Objects.{from_covers, to_covers, points_at, points_nowhere}
 use Rattle.fz_why.specs.declared.paths.Pointer.{Pointer}
 use Rattle.fz_why.specs.declared.snapshot.listing.Cell.{Cell}
+use Rattle.fz_why.specs.declared.snapshot.listing.Listed.{Listed}
+use Rattle.fz_why.specs.declared.snapshot.listing.TheConstants.{HIDDEN}
 use Rattle.fz_why.specs.Paths.{all_pointers}
 use Rattle.fz_why.specs.Hosts.{all_at, all_none, all_within}
-use Rattle.fz_why.specs.Snapshot.{AreCells, Cells, Links, IsNext, IsPut, IsWordOf, Lists, holder_of, is_same, is_taken, linked_at, links_to, listed, objects_of, place_of, with_cell, word_of, words_in}
+use Rattle.fz_why.specs.Snapshot.{AreCells, Cells, Links, IsNext, IsPut, IsWordOf, Lists, cell_of, hidden_at, holder_of, is_same, is_taken, linked_at, links_to, listed, objects_of, place_of, value_of, with_cell, word_of, words_in}
 
 -- ---- one more word
 
@@ -252,6 +255,26 @@ module _ (es : Cells) (inv : AreCells (objects_of es) es) where
       one None none = refl
       one (Some c) there = let of = inv.each 0 c there in let w = inv.within 0 c there in absurd (omega (arith, of.at, w.0))
 
+  -- ---- what words contain
+
+  pub word_value : (w : ℕ) (c : Cell) → lookup (nat_eq w) es ≡ Some c → word_at heap w ≡ c.value
+  word_value w c there =
+      let of = inv.each w c there in
+      let pointed : points heap w ≡ Some c.object = sym (points_is w) ∙ ap (option_map (λ (d : Cell). d.object)) there in
+      let offset : w - c.object ≡ of.index = omega (arith, of.at) in
+      ap (λ p. unwrap_or (option_and_then (λ start. option_map (λ (o : Object). slice_index o.words (w - start)) (get heap start)) p) 0) pointed
+      ∙ ap (λ g. unwrap_or (option_map (λ (o : Object). slice_index o.words (w - c.object)) g) 0) of.here
+      ∙ ap (slice_index of.object.words) offset ∙ get_or_from_slice_get of.object.words of.index c.value 0 of.is
+
+  -- the value of an ephemeron, by the word that was listed
+  pub value_here : (links : Links) (number w : ℕ) (c : Cell) (b : Bool) → place_of es links number ≡ Some w → lookup (nat_eq w) es ≡ Some c → nat_eq c.value HIDDEN ≡ b
+      → value_of es links heap number ≡ (if b then points heap c.hidden else None)
+  value_here links number w c b placed there is =
+      ap (option_and_then (λ word. if nat_eq (word_at heap word) HIDDEN then hidden_at es heap word else None)) placed
+      ∙ ap (λ n. if nat_eq n HIDDEN then hidden_at es heap w else None) (word_value w c there)
+      ∙ ap (λ x. if x then hidden_at es heap w else None) is
+      ∙ ap (λ (o : Option ℕ). if b then o else None) (ap (option_and_then (λ (d : Cell). points heap d.hidden)) there)
+
   -- ---- whether an object was listed
 
   pub contains_none : (a : ℕ) → lookup (nat_eq a) es ≡ None → false ≡ contains_key heap a
@@ -324,18 +347,18 @@ module _ (es : Cells) (inv : AreCells (objects_of es) es) where
         omega (arith, ne_last, fits),
       )
 
-  pub next_object : (links : Links) (a value : ℕ) (link : Option ℕ) → a < 2 ^ 64 → is_taken es links a link ≡ false → IsNext es links a (record { object = a; value = value; link = link })
-  next_object links a value link fits untaken =
-      let f = free links a link fits untaken in
+  pub next_object : (links : Links) (a : ℕ) (l : Listed) → a < 2 ^ 64 → is_taken es links a l.link ≡ false → IsNext es links a (cell_of a l)
+  next_object links a l fits untaken =
+      let f = free links a l.link fits untaken in
       record { free = f.0; unlinked = f.1; at = begins_free a f.0; object = f.2; fits = f.3 }
 
-  pub next_word : (links : Links) (w a value : ℕ) (link : Option ℕ) → w < 2 ^ 64 → is_taken es links w link ≡ false → holder_of es (w - 1) ≡ Some a → IsNext es links w (record { object = a; value = value; link = link })
-  next_word links w a value link fits untaken there = one (lookup (nat_eq (w - 1)) es) refl there
+  pub next_word : (links : Links) (w a : ℕ) (l : Listed) → w < 2 ^ 64 → is_taken es links w l.link ≡ false → holder_of es (w - 1) ≡ Some a → IsNext es links w (cell_of a l)
+  next_word links w a l fits untaken there = one (lookup (nat_eq (w - 1)) es) refl there
     where
-      one : (g : Option Cell) → lookup (nat_eq (w - 1)) es ≡ g → option_map (λ (c : Cell). c.object) g ≡ Some a → IsNext es links w (record { object = a; value = value; link = link })
+      one : (g : Option Cell) → lookup (nat_eq (w - 1)) es ≡ g → option_map (λ (c : Cell). c.object) g ≡ Some a → IsNext es links w (cell_of a l)
       one None none is = absurd (none-some a is)
       one (Some c) there is =
-          let f = free links w link fits untaken in
+          let f = free links w l.link fits untaken in
           let same : c.object ≡ a = same_Some c.object a is in
           record {
             free = f.0;

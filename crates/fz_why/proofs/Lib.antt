@@ -2,12 +2,14 @@ pub mod Trails
 pub mod Adding
 pub mod Stepping
 pub mod Spreading
+pub mod Gaining
 pub mod Reached
 pub mod Holding
+pub mod Held
 pub mod Judged
+pub mod Plain
 pub mod Looping
 pub mod Rooted
-pub mod Held
 pub mod Told
 pub mod Back
 pub mod Cells

@@ -1,9 +1,10 @@
 -- What loops have added so far.
-use Rattle.std.proofs.Common.{◌≡◌, ◌≢◌, ℕ, ◌+◌, ◌<◌, ◌↔◌, ◌⊎◌, ◌++◌, Bool, false, List, [], ◌∷◌, Option, Some, None, slice_get, sym, ap, ◌∙◌, subst, inl, inr, ⊎_elim, arith, Contains}
+use Rattle.std.proofs.Common.{◌≡◌, ◌≢◌, ℕ, ◌+◌, ◌<◌, ◌↔◌, ◌⊎◌, ◌++◌, ◌&&◌, Bool, false, not, List, [], ◌∷◌, Option, Some, None, slice_get, sym, ap, ◌∙◌, subst, inl, inr, ⊎_elim, arith, Contains}
 use Rattle.std.proofs.lemmas.Bool.{cases_lt}
 use Rattle.std.proofs.lemmas.Option.{same_Some, slice_get_within}
 use Rattle.std.proofs.lemmas.List.Elements.{Contains-append_left, Contains-push, Contains-push_cases}
 use Rattle.std.specs.FinMap.{get}
+use Rattle.std.specs.FinSet.{contains}
 use Rattle.fz_model.specs.declared.answers.Entry.{Entry}
 use Rattle.fz_model.specs.declared.answers.Registration.{Registration}
 use Rattle.fz_model.specs.State.{Map, Object}
@@ -15,10 +16,9 @@ use Rattle.fz_finalizers.specs.Walks.{AreCleanups, AreRegistrations}
 use Rattle.fz_finalizers.specs.declared.cleanups.Attached.{Attached}
 use Rattle.fz_why.specs.declared.paths.Pointer.{Pointer}
 use Rattle.fz_why.specs.declared.origin.Origin.{Origin}
-use Rattle.fz_why.specs.declared.origin.Origin.TheVariants.{Root, First}
+use Rattle.fz_why.specs.declared.origin.Origin.TheVariants.{Root}
 use Rattle.fz_why.specs.declared.reason.RootOf.TheVariants.{Host, RegisteredData, CleanupData, HeldObject, HeldData}
-use Rattle.fz_why.specs.Why.{kind_toward}
-use Rattle.fz_why.specs.Trail.{Trail, has, is_cut, IsStepBut, IsFirstBy, IsByHost, IsByRegistration, IsByCleanup, IsByOther}
+use Rattle.fz_why.specs.Trail.{Trail, is_cut, IsStepBut, IsByHost, IsByRegistration, IsByCleanup, IsByOther, IsByUnfound}
 use Rattle.fz_why.proofs.Spreading.{past_end}
 
 -- by one of the first elements of a list, and by one of all
@@ -99,14 +99,13 @@ attached_all objects s es are o b = (
 abbrev pub ByHeld : Map Object → Entry → Origin → ℕ → Type 0
 ByHeld objects e o b = ((o ≡ Root (HeldObject e.seq)) × (points objects e.obj ≡ Some b)) ⊎ ((o ≡ Root (HeldData e.seq)) × (points objects e.cd ≡ Some b))
 
--- ---- first steps of others
+-- ---- with what the search from others begins
 
 abbrev pub ByFirst : (ℕ → Option ℕ) → Map Object → State → Trail → (ℕ → List Pointer) → Bool → ℕ → ℕ × Registration → Origin → ℕ → Type 0
-ByFirst link objects s found pointers late object e o b =
-    (e.0 ≢ object) × (has found e.0 ≡ false) × (o ≡ First e.0) × IsFirstBy objects (is_cut link s (Some found)) (pointers e.0) e.0 (kind_toward late e.1.kind) b
+ByFirst link objects s found pointers late object e = IsByUnfound objects (is_cut link s (Some found)) (pointers e.0) found object e.0 (late && not (contains s.late e.0)) e.1.kind
 
 pub others_all : (link : ℕ → Option ℕ) (objects : Map Object) (s : State) (found : Trail) (pointers : ℕ → List Pointer) (late : Bool) (object : ℕ) (es : List (ℕ × Registration)) → AreRegistrations s es → (o : Origin) (b : ℕ) → IsByOther link objects s found pointers late object o b ↔ ByAny es (ByFirst link objects s found pointers late object) o b
 others_all link objects s found pointers late object es are o b = (
-  λ h. let e : ℕ × Registration = (h.0, h.1) in (e, listed es h.0 h.1 (ap (λ (m : Map Registration). get m h.0) are.0 ∙ h.2), (h.3, h.4, h.5, h.6)),
-  λ h. (h.0.0, h.0.1, ap (λ (m : Map Registration). get m h.0.0) (sym are.0) ∙ got es h.0.0 h.0.1 are.1 h.1, h.2.0, h.2.1, h.2.2, h.2.3),
+  λ h. let e : ℕ × Registration = (h.0, h.1) in (e, listed es h.0 h.1 (ap (λ (m : Map Registration). get m h.0) are.0 ∙ h.2), (h.3, h.4, h.5)),
+  λ h. (h.0.0, h.0.1, ap (λ (m : Map Registration). get m h.0.0) (sym are.0) ∙ got es h.0.0 h.0.1 are.1 h.1, h.2.0, h.2.1, h.2.2),
 )

@@ -3,5 +3,6 @@ pub mod Why
 pub mod Trail
 pub mod Laws
 pub mod Snapshot
+pub mod Copies
 pub mod Hosts
 pub mod Listing

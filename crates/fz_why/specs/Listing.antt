@@ -1,15 +1,21 @@
--- A copy of a heap lists the words of its objects, and finds links by the words that they denote.
+-- A copy of a heap lists the words of its objects, finds links by the words that they denote, and has the values of ephemerons whose words aren't cleared.
 -- code: fz_why/src/snapshot.rt
-use Rattle.std.proofs.Common.{◌≡◌, ℕ, ◌++◌, Bool, true, false, true≢false, if◌then◌else◌, nat_cmp, [], ◌∷◌, Option, Some, None, option_and_then, ⊎_elim, refl, sym, ap, ◌∙◌}
+use Rattle.std.proofs.Common.{◌≡◌, ℕ, ◌++◌, Bool, true, false, true≢false, cond, if◌then◌else◌, nat_cmp, nat_eq, [], ◌∷◌, Option, Some, None, option_and_then, ⊎_elim, refl, sym, ap, ◌∙◌}
 use Rattle.std.proofs.lemmas.Bool.{cases_eq, eqb-true, eq-eqb}
 use Rattle.std.proofs.lemmas.Option.{none-some, same_Some}
 use Rattle.std.specs.FinMap.{get, empty, get-empty}
+use Rattle.std.specs.Map.{lookup}
+use Rattle.std.specs.Option.{option_map_or}
+use Rattle.fz_model.specs.Memory.{filled, word_at}
 use Rattle.fz_model.specs.declared.kinds.ObjKind.TheVariants.{Scanned}
 use Rattle.fz_model.specs.State.{Map, Object}
 use Rattle.fz_model.proofs.Maps.{get-insert_same, get-insert_other}
-use Rattle.fz_why.specs.Paths.{AreLinks, ArePointers, all_pointers}
-use Rattle.fz_why.specs.Hosts.{are_all}
-use Rattle.fz_why.specs.Snapshot.{Cells, Links, back, is_same, link_of, linked_at, listed, objects_of, place_of, with_cell, word_of, words_in}
+use Rattle.fz_model.proofs.SeenKept.{points-filled}
+use Rattle.fz_why.specs.declared.snapshot.listing.Cell.{Cell}
+use Rattle.fz_why.specs.declared.snapshot.listing.TheConstants.{HIDDEN}
+use Rattle.fz_why.specs.Paths.{AreLinks, ArePointers, AreValues, all_pointers}
+use Rattle.fz_why.specs.Hosts.{are_all, word_filled}
+use Rattle.fz_why.specs.Snapshot.{Cells, Links, back, hidden_at, is_same, link_of, linked_at, listed, objects_of, place_of, value_of, with_cell, word_of, words_in}
 
 -- each object is one that is scanned
 abbrev AreScanned : Map Object → Type 0
@@ -62,3 +68,22 @@ links_found cells links number word = (
   λ e. let m = back_met (linked_at cells) (word_of links) word number e in back_made (word_of links) (linked_at cells) number word m.1 m.0,
   λ e. let m = back_met (word_of links) (linked_at cells) number word e in back_made (linked_at cells) (word_of links) word number m.1 m.0,
 )
+
+pub values_stay : (cells : Cells) (links : Links) → AreValues (place_of cells links) (value_of cells links)
+values_stay cells links objects test number zero placed = one (place_of cells links number)
+  where
+    after : Map Object
+    after = filled test 0 objects
+
+    hidden_stays : (word : ℕ) → hidden_at cells after word ≡ hidden_at cells objects word
+    hidden_stays word = λ i. option_and_then (λ (c : Cell). points-filled test 0 objects c.hidden i) (lookup (nat_eq word) cells)
+
+    -- of a word that is zero, and of one that is unchanged
+    two : (word : ℕ) (b : Bool) → (if nat_eq (cond b 0 (word_at objects word)) HIDDEN then hidden_at cells after word else None) ≡ (if b then None else (if nat_eq (word_at objects word) HIDDEN then hidden_at cells objects word else None))
+    two word true = refl
+    two word false = ap (λ (o : Option ℕ). if nat_eq (word_at objects word) HIDDEN then o else None) (hidden_stays word)
+
+    one : (p : Option ℕ) → option_and_then (λ word. if nat_eq (word_at after word) HIDDEN then hidden_at cells after word else None) p
+        ≡ (if option_map_or test p false then None else option_and_then (λ word. if nat_eq (word_at objects word) HIDDEN then hidden_at cells objects word else None) p)
+    one None = refl
+    one (Some word) = ap (λ n. if nat_eq n HIDDEN then hidden_at cells after word else None) (word_filled test objects word) ∙ two word (test word)

@@ -5,7 +5,12 @@ use Rattle.std.specs.FinMap.{get, insert, empty}
 use Rattle.std.specs.Map.{lookup}
 use Rattle.std.specs.Option.{option_map_or}
 use Rattle.fz_model.specs.declared.kinds.ObjKind.TheVariants.{Scanned}
+use Rattle.fz_model.specs.Memory.{points, word_at}
 use Rattle.fz_model.specs.State.{Map, Object}
+use Rattle.fz_pass.specs.Marks.{AreRegistered, AreTargets}
+use Rattle.fz_finalizers.specs.States.{State}
+use Rattle.fz_why.specs.declared.snapshot.listing.Listed.{Listed}
+use Rattle.fz_why.specs.declared.snapshot.listing.TheConstants.{HIDDEN}
 use Rattle.fz_why.specs.declared.snapshot.listing.Cell.{Cell}
 
 -- the words by address, and the links by number, each with the address of its word, both in the order in which they were listed
@@ -20,6 +25,11 @@ pub record Copy : Type 0 where
   pub cells : Cells
   pub links : Links
   pub roots : List ℕ
+
+-- the word of an object, as it is kept. For its object the word of an ephemeron contains a number that is no word's address.
+abbrev pub cell_of : ℕ → Listed → Cell
+cell_of object l =
+    record { object = object; value = if l.is_ephemeron then HIDDEN else l.value; link = l.link; hidden = if l.is_ephemeron then l.value else 0 }
 
 -- the words that were listed of an object
 abbrev pub words_in : Map Object → ℕ → List ℕ
@@ -71,6 +81,19 @@ place_of cells links = back (word_of links) (linked_at cells)
 
 abbrev pub link_of : Cells → Links → ℕ → Option ℕ
 link_of cells links = back (linked_at cells) (word_of links)
+
+-- the value of an ephemeron is the object to which its word points, if it was listed as one and isn't cleared
+abbrev pub hidden_at : Cells → Map Object → ℕ → Option ℕ
+hidden_at cells objects word = option_and_then (λ (c : Cell). points objects c.hidden) (lookup (nat_eq word) cells)
+
+abbrev pub value_of : Cells → Links → Map Object → ℕ → Option ℕ
+value_of cells links objects number = option_and_then (λ word. if nat_eq (word_at objects word) HIDDEN then hidden_at cells objects word else None) (place_of cells links number)
+
+-- the registered objects, the targets of short links and the keys of short ephemerons are among the objects
+pub record HasAll (objects : Map Object) (s : State) : Type 0 where
+  pub registered : AreRegistered objects s.registrations
+  pub short : AreTargets objects s.short
+  pub keys : AreTargets objects s.ephemerons.short
 
 -- the object to which the word at an address belongs
 abbrev pub holder_of : Cells → ℕ → Option ℕ

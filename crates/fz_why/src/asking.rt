@@ -2,14 +2,11 @@
 
 ghost use Rattle.std.specs.Prelude.{◌≡◌, ◌≢◌, ℕ, List, false, Contains, IfOk, MatchOption, Option, None, Some};
 ghost use Rattle.std.specs.FinMap.{get};
-ghost use Rattle.std.specs.FinSet.{contains};
 ghost use Rattle.fz_model.specs.declared.answers.Entry.{Entry};
-ghost use Rattle.fz_model.specs.declared.answers.Registration.{Registration};
 ghost use Rattle.fz_model.specs.Memory.{points};
 ghost use Rattle.fz_model.specs.State.{Map, Object};
 ghost use Rattle.fz_model.specs.Reachability.{Computes};
 ghost use Rattle.fz_pass.specs.Marks.{AreRegistered, AreTargets};
-ghost use Rattle.fz_finalizers.specs.Kinds.{is_late};
 ghost use Rattle.fz_finalizers.specs.States.{unfinished};
 ghost use Rattle.fz_why.specs.Why.{IsReached, IsToldOf, IsUnfound};
 ghost use Rattle.fz_why.specs.Trail.{has, IsOfRoots, IsOrdered, IsSound, IsTrailPath};
@@ -21,8 +18,8 @@ use crate::reason::{Reason, RootOf};
 use crate::room::NoMemory;
 use crate::rooting::find;
 use crate::trail::Trail;
-use crate::waiting::{ring, wait};
-use fz_finalizers::{Entry, Finalizers, Kind};
+use crate::waiting::{is_flagged, reach_itself, ring, wait};
+use fz_finalizers::{Entry, Finalizers};
 use fz_model::{Addr, Registration};
 use std::alloc::Global;
 
@@ -54,29 +51,9 @@ fn root_path(
     };
     match origin {
         Origin::Root(root) => Ok(Some((root, path))),
+        Origin::Itself => unreachable!(),
         Origin::First(_) => unreachable!(),
         Origin::After(_) => unreachable!(),
-    }
-}
-
-/// Whether this is the kind that is judged after the others.
-fn is_late(kind: Kind) -> bool
-    ensures { result ≡ is_late kind }
-{
-    match kind {
-        Kind::Unreachable => true,
-        Kind::Normal | Kind::IgnoreSelf | Kind::NoOrder => false,
-    }
-}
-
-/// Whether a registered object is of the kind `Unreachable`.
-fn is_flagged(finalizers: &Finalizers, object: Addr) -> bool
-    requires { (r : Registration) × (get finalizers.now.state.registrations object ≡ Some r) }
-    ensures { result ≡ contains finalizers.now.state.late object }
-{
-    match finalizers.kind(object) {
-        Some(kind) => is_late(kind),
-        None => false,
     }
 }
 
@@ -90,16 +67,27 @@ fn why_unreachable<H: Paths>(
     registration: Registration,
 ) -> Result<Reason, NoMemory>
     requires sound { IsSound (H.objects host.now) finalizers.now.state }
-    requires unfound { IsUnfound (H.place host.now) (H.objects host.now) finalizers.now.state (has found.now) object registration }
-    requires reached { Computes (has found.now) (IsReached (H.objects host.now) (H.roots host.now) finalizers.now.state) }
-    ensures told { IfOk result (λ reason. IsToldOf (H.place host.now) (H.objects host.now) (H.roots host.now) finalizers.now.state reason object) }
+    requires unfound { IsUnfound (H.place host.now) (H.value host.now) (H.objects host.now) finalizers.now.state (has found.now) object registration }
+    requires reached { Computes (has found.now) (IsReached (H.place host.now) (H.value host.now) (H.objects host.now) (H.roots host.now) finalizers.now.state) }
+    ensures told { IfOk result (λ reason. IsToldOf (H.place host.now) (H.value host.now) (H.objects host.now) (H.roots host.now) finalizers.now.state reason object) }
 {
-    let circle = ring(alloc, finalizers, host, found, object, registration)?;
+    let kind = registration.kind;
+    let own = reach_itself(alloc, finalizers, host, found, object, kind)?;
+    let circle = ring(alloc, finalizers, host, found, &own, object, registration)?;
     if let Some(path) = circle {
         return Ok(Reason::Ring(path));
     }
     let late = is_flagged(finalizers, object);
-    let waits = wait(alloc, finalizers, host, found, object, late)?;
+    let waits = wait(
+        alloc,
+        finalizers,
+        host,
+        found,
+        &own,
+        object,
+        registration,
+        late,
+    )?;
     match waits {
         Some(path) => Ok(Reason::Waits(path)),
         None => Ok(Reason::Ready),
@@ -116,7 +104,7 @@ fn why_registered<H: Paths>(
 ) -> Result<Reason, NoMemory>
     requires sound { IsSound (H.objects host.now) finalizers.now.state }
     requires registered { get finalizers.now.state.registrations object ≡ Some registration }
-    ensures told { IfOk result (λ reason. IsToldOf (H.place host.now) (H.objects host.now) (H.roots host.now) finalizers.now.state reason object) }
+    ensures told { IfOk result (λ reason. IsToldOf (H.place host.now) (H.value host.now) (H.objects host.now) (H.roots host.now) finalizers.now.state reason object) }
 {
     let found = find(alloc, finalizers, host)?;
     let rooted = root_path(alloc, &found, object)?;
@@ -130,7 +118,7 @@ fn why_registered<H: Paths>(
 /// Why an object that isn't registered isn't finalized.
 fn why_unregistered(finalizers: &Finalizers, object: Addr) -> Reason
     requires { get finalizers.now.state.registrations object ≡ None }
-    ensures { (place : ℕ → Option ℕ) (objects : Map Object) (roots : List ℕ) → IsToldOf place objects roots finalizers.now.state result object }
+    ensures { (place : ℕ → Option ℕ) (value : Map Object → ℕ → Option ℕ) (objects : Map Object) (roots : List ℕ) → IsToldOf place value objects roots finalizers.now.state result object }
 {
     match entry_of(finalizers, object) {
         Some(entry) => Reason::Queued(entry),
@@ -140,10 +128,12 @@ fn why_unregistered(finalizers: &Finalizers, object: Addr) -> Reason
 
 /// Why an object isn't finalized, with a path as evidence. It may be called at any time outside of a pass, and nothing has to be marked.
 ///
-/// Words are as they are once dead short links are cleared. The host has to ensure that registered objects and the targets of links are its objects.
+/// Words are as they are once a pass has cleared those of dead short links and of short ephemerons whose keys aren't found. Values of ephemerons count as they
+/// do in a pass. The host has to ensure that registered objects, the targets of links and the keys of ephemerons are its objects.
 ///
-/// Takes time proportional to the words of all objects that roots and registered objects reach, and memory for each of these objects. Fails with `NoMemory` if
-/// an allocation fails. Nothing changes in any case.
+/// Takes time proportional to the words of all objects that roots and registered objects reach, and memory for each of these objects. It looks at the
+/// ephemerons in rounds: at each of them once, and again whenever values were added since. A chain of n ephemerons, the value of each of which reaches the key
+/// of the next, may take n rounds. Fails with `NoMemory` if an allocation fails. Nothing changes in any case.
 pub fn why<H: Paths>(
     alloc: Global,
     finalizers: &Finalizers,
@@ -152,9 +142,11 @@ pub fn why<H: Paths>(
 ) -> Result<Reason, NoMemory>
     requires registered { AreRegistered (H.objects host.now) finalizers.now.state.registrations }
     requires short { AreTargets (H.objects host.now) finalizers.now.state.short }
+    // Keys are objects.
+    requires keys { AreTargets (H.objects host.now) finalizers.now.state.ephemerons.short }
     // A cleared word points to nothing.
     requires zero { points (H.objects host.now) 0 ≡ None }
-    ensures told { IfOk result (λ reason. IsToldOf (H.place host.now) (H.objects host.now) (H.roots host.now) finalizers.now.state reason object) }
+    ensures told { IfOk result (λ reason. IsToldOf (H.place host.now) (H.value host.now) (H.objects host.now) (H.roots host.now) finalizers.now.state reason object) }
 {
     match finalizers.registration(object) {
         Some(registration) => {

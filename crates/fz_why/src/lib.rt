@@ -1,5 +1,5 @@
 //! Why an object isn't finalized: what retains it, which other objects with finalizers it waits for, or on which ring it is; and which objects wait for a
-//! ring.
+//! ring. Values of ephemerons count as a pass counts them.
 #![tactic(auto)]
 
 mod asking;
@@ -14,10 +14,11 @@ mod searching;
 mod snapshot;
 mod stuck_objects;
 mod trail;
+mod valuing;
 mod waiting;
 
 pub use asking::why;
-pub use law::{answers, rings};
+pub use law::{answers, rings, without_ephemerons};
 pub use paths::{Paths, Pointer};
 pub use reason::{Reason, RootOf};
 pub use room::NoMemory;

@@ -8,6 +8,8 @@ use fz_model::Addr;
 pub(crate) enum Origin {
     /// The root points to it.
     Root(RootOf),
+    /// The search begins with it.
+    Itself,
     /// It is a first step of this registered object.
     First(Addr),
     /// It is a child of the object at this index of the trail.

@@ -4,7 +4,7 @@ ghost use Rattle.std.specs.Prelude.{◌≡◌, ◌+◌, ◌^◌, ◌<◌, ℕ, L
 ghost use Rattle.fz_model.specs.Memory.{points};
 ghost use Rattle.fz_model.specs.State.{Map, Object};
 ghost use Rattle.fz_why.specs.declared.paths.Pointer.{Pointer};
-ghost use Rattle.fz_why.specs.Paths.{ArePointers, AreLinks};
+ghost use Rattle.fz_why.specs.Paths.{ArePointers, AreLinks, AreValues};
 
 use fz_model::{Addr, Word};
 
@@ -19,8 +19,10 @@ pub struct Pointer {
 
 /// A host that can list its roots, and the words of its objects that point to others. It need not have marks, and may be a copy of a heap.
 ///
-/// It also defines five ghost members, and proves two facts: the words listed of an object are the object's own, with each that points to an object among
-/// them, and a link's number is found by the word that it denotes.
+/// A host without ephemerons has no values: its `value` returns `None`.
+///
+/// It also defines six ghost members, and proves three facts: the words listed of an object are the object's own, with each that points to an object among
+/// them; a link's number is found by the word that it denotes; and an ephemeron has no value once its word is cleared.
 pub trait Paths {
     /// Its objects, by address.
     ghost objects: { Self → Map Object };
@@ -28,8 +30,10 @@ pub trait Paths {
     ghost pointers: { Self → ℕ → List Pointer };
     /// The words from which it marks, but for those of the finalizers.
     ghost roots: { Self → List ℕ };
-    /// Which word of an object a link denotes, if any.
+    /// Which word of an object a link or an ephemeron denotes, if any.
     ghost place: { Self → ℕ → Option ℕ };
+    /// The object to which the word of an ephemeron points, if any, as a function of the host's objects.
+    ghost value: { Self → Map Object → ℕ → Option ℕ };
     /// The number of the link that denotes a word, if one does.
     ghost link: { Self → ℕ → Option ℕ };
 
@@ -47,6 +51,14 @@ pub trait Paths {
     fn link_at(&self, word: Addr) -> Option<Addr>
         ensures { result ≡ link self.now word };
 
+    /// The word of an object that a link or an ephemeron denotes, if any.
+    fn word_of(&self, number: Addr) -> Option<Addr>
+        ensures { result ≡ place self.now number };
+
+    /// The object to which the word of an ephemeron points, if any: the word by which the host doesn't mark.
+    fn value(&self, number: Addr) -> Option<Addr>
+        ensures { result ≡ value self.now (objects self.now) number };
+
     /// The object to which a word points.
     fn target(&self, word: Word) -> Option<Addr>
         ensures { result ≡ points (objects self.now) word };
@@ -56,4 +68,7 @@ pub trait Paths {
 
     /// Numbers of links are found by the words that they denote.
     ghost are_links: { (h : Self) → AreLinks (place h) (link h) };
+
+    /// An ephemeron whose word is cleared has no value, and other values stay.
+    ghost are_values: { (h : Self) → AreValues (place h) (value h) };
 }

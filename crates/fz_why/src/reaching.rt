@@ -35,7 +35,7 @@ pub(crate) fn path_to(
                 path.reverse();
                 return Ok(Some((here.1, path)));
             }
-            Origin::Root(_) => {
+            Origin::Root(_) | Origin::Itself => {
                 path.reverse();
                 return Ok(Some((here.1, path)));
             }

@@ -17,7 +17,8 @@ pub enum RootOf {
     HeldData(u64),
 }
 
-/// Why an object isn't finalized, or that it is ready. Each object of a path is a child of the one before.
+/// Why an object isn't finalized, or that it is ready. Each object of a path is a child of the one before, or the value of an ephemeron. In that case the object
+/// before is the ephemeron's key, or the object that contains its word, and the other of these two is retained by the same roots or objects.
 #[derive(Debug, Drop)]
 pub enum Reason {
     /// It has no finalizer, and no entry.
@@ -27,9 +28,10 @@ pub enum Reason {
     /// It is reachable. The path begins at the object to which the root points, and ends at the object.
     Found(RootOf, Vec<Addr>),
     /// It is unreachable, and a path leads from the object back to itself. The path begins and ends with the object, and its first step is one that the
-    /// object's kind counts.
+    /// object's kind counts. Keys on which the path depends are reachable, or reached by the object's first steps.
     Ring(Vec<Addr>),
-    /// It is unreachable and on no ring. The path leads to it from another unreachable object with a finalizer, by a first step that counts.
+    /// It is unreachable and on no ring. The path leads to it from another unreachable object with a finalizer, by a first step that counts. Keys on which the
+    /// path depends are retained, possibly by further such objects.
     Waits(Vec<Addr>),
     /// A pass queues it.
     Ready,

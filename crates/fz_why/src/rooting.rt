@@ -6,7 +6,7 @@ ghost use Rattle.fz_model.specs.declared.answers.Entry.{Entry};
 ghost use Rattle.fz_model.specs.declared.answers.Registration.{Registration};
 ghost use Rattle.fz_model.specs.Memory.{points};
 ghost use Rattle.fz_finalizers.specs.States.{unfinished};
-ghost use Rattle.fz_why.specs.Trail.{Adds, IsReachedTrail, IsByRoot, IsByHost, IsByRegistration, IsByCleanup, IsByEntry};
+ghost use Rattle.fz_why.specs.Trail.{Adds, IsByHost, IsByRegistration, IsByCleanup, IsByEntry, IsFoundTrail};
 
 use crate::origin::Origin;
 use crate::paths::Paths;
@@ -95,13 +95,13 @@ pub(crate) fn find<H: Paths>(
     finalizers: &Finalizers,
     host: &H,
 ) -> Result<Trail, NoMemory>
-    ensures found { IfOk result (λ t. IsReachedTrail (H.objects host.now) (IsByRoot (H.objects host.now) (H.roots host.now) finalizers.now.state) t) }
+    ensures found { IfOk result (λ t. IsFoundTrail (H.place host.now) (H.value host.now) (H.objects host.now) (H.roots host.now) finalizers.now.state t) }
 {
     let mut trail = Trail::new(alloc);
     add_host(host, &mut trail)?;
     add_registered(finalizers, host, &mut trail)?;
     add_attached(finalizers, host, &mut trail)?;
     add_entries(finalizers, host, &mut trail)?;
-    spread(finalizers, host, None, &mut trail)?;
+    spread(finalizers, host, None, None, &mut trail)?;
     Ok(trail)
 }

@@ -1,28 +1,47 @@
-//! Searching along the words of objects.
+//! Searching along the words of objects, and along the values of ephemerons.
 
 ghost use Rattle.std.specs.Prelude.{◌≡◌, ◌≢◌, OnOk};
 ghost use Rattle.std.specs.Option.{option_copied};
-ghost use Rattle.fz_why.specs.Trail.{is_cut, Adds, IsByFirst, IsByPointer, IsBySteps, IsStepBy, SpreadsAll};
+ghost use Rattle.fz_why.specs.Trail.{either, is_cut, is_dead_in, Adds, IsByFirst, IsByPointer, IsBySteps, IsRowBy, IsStepBy, SpreadsAll};
 
 use crate::origin::Origin;
 use crate::paths::{Paths, Pointer};
 use crate::room::NoMemory;
 use crate::trail::Trail;
+use crate::valuing::look;
 use fz_finalizers::{Finalizers, LinkKind};
 use fz_model::{Addr, RegKind};
 
-/// Whether a word doesn't count, since it is the word of a short link whose target wasn't found. Before the search for what is found, each word counts.
-fn is_cut<H: Paths>(finalizers: &Finalizers, host: &H, found: Option<&Trail>, word: Addr) -> bool
+/// Whether a pass clears the word with this number: that of a short link or a short ephemeron, whose target or key wasn't found.
+fn is_dead(finalizers: &Finalizers, found: &Trail, number: Addr) -> bool
+    ensures { result ≡ is_dead_in found.now finalizers.now.state number }
+{
+    if let Some(target) = finalizers.target(LinkKind::Short, number) {
+        if !found.contains(target) {
+            return true;
+        }
+    }
+    match finalizers.key(number) {
+        Some((LinkKind::Short, key)) => !found.contains(key),
+        Some((LinkKind::Long, _)) => false,
+        None => false,
+    }
+}
+
+/// Whether a word doesn't count, since a pass clears it. Before the search for what is found, each word counts.
+pub(crate) fn is_cut<H: Paths>(
+    finalizers: &Finalizers,
+    host: &H,
+    found: Option<&Trail>,
+    word: Addr,
+) -> bool
     ensures { result ≡ is_cut (H.link host.now) finalizers.now.state (option_copied found.entry) word }
 {
     let Some(found) = found else {
         return false;
     };
-    let Some(link) = host.link_at(word) else {
-        return false;
-    };
-    match finalizers.target(LinkKind::Short, link) {
-        Some(target) => !found.contains(target),
+    match host.link_at(word) {
+        Some(number) => is_dead(finalizers, found, number),
         None => false,
     }
 }
@@ -129,20 +148,27 @@ pub(crate) fn add_first_steps<H: Paths>(
     }
 }
 
-/// Adds what the objects on the trail reach.
+/// Adds what the objects on the trail reach, by their words and by the values of ephemerons. A value is added if its key and the object that contains its word
+/// are held, which means that they are on the trail, or were found, or are on the object's own trail; and if at least one of them is on the trail.
+///
+/// Whenever it comes to the end of the trail it looks at each ephemeron once.
 pub(crate) fn spread<H: Paths>(
     finalizers: &Finalizers,
     host: &H,
     found: Option<&Trail>,
+    own: Option<&Trail>,
     trail: &mut Trail,
 ) -> Result<(), NoMemory>
-    ensures spread { OnOk result (SpreadsAll (λ a b. IsStepBy (H.objects host.now) (is_cut (H.link host.now) finalizers.now.state (option_copied found.entry)) (H.pointers host.now a) b) trail.old trail.new) }
+    ensures spread { OnOk result (SpreadsAll (λ a b. IsStepBy (H.objects host.now) (is_cut (H.link host.now) finalizers.now.state (option_copied found.entry)) (H.pointers host.now a) b)
+        (IsRowBy (H.place host.now) (H.value host.now) (H.link host.now) (H.objects host.now) finalizers.now.state (option_copied found.entry))
+        (either (option_copied found.entry) (option_copied own.entry)) trail.old trail.new) }
 {
     for place in 0..usize::MAX {
-        match trail.at(place) {
-            Some(here) => {
+        let next = look(finalizers, host, found, own, place, trail)?;
+        match next {
+            Some(object) => {
                 let origin = Origin::After(place);
-                add_steps(finalizers, host, found, here.0, None, origin, trail)?;
+                add_steps(finalizers, host, found, object, None, origin, trail)?;
             }
             None => return Ok(()),
         }

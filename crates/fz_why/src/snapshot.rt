@@ -5,9 +5,9 @@ ghost use Rattle.std.specs.FinMap.{contains_key};
 ghost use Rattle.fz_model.specs.Memory.{points};
 ghost use Rattle.fz_pass.specs.Marks.{AreRegistered, AreTargets};
 ghost use Rattle.fz_why.specs.Paths.{all_pointers};
-ghost use Rattle.fz_why.specs.Listing.{links_found, words_point};
-ghost use Rattle.fz_why.specs.Snapshot.{DoesOrNot, holder_of, IsNext, is_taken, Keeps, link_of, Lists, objects_of, place_of};
-ghost use Rattle.fz_why.specs.Why.{IsToldOf};
+ghost use Rattle.fz_why.specs.Listing.{links_found, values_stay, words_point};
+ghost use Rattle.fz_why.specs.Snapshot.{cell_of, DoesOrNot, HasAll, holder_of, IsNext, is_taken, Keeps, link_of, Lists, objects_of, place_of, value_of};
+ghost use Rattle.fz_why.specs.Copies.{IsToldIn};
 
 mod listing;
 
@@ -19,19 +19,10 @@ use fz_finalizers::{Finalizers, LinkKind};
 use fz_model::{Addr, Word};
 use fz_table::AddressHasher;
 use indexmap::IndexMap;
-pub use listing::Cell;
-use listing::{add_link, has_link};
+use listing::{HIDDEN, add_link, cell_of, has_link};
+pub use listing::{Cell, Listed};
 use std::alloc::Global;
 use std::marker::Model;
-
-/// A word of an object, as it is listed.
-#[derive(Clone, Copy, Debug, PartialEq, Eq)]
-pub struct Listed {
-    /// What the word contains.
-    pub value: Word,
-    /// The number of the link that denotes the word, if one does.
-    pub link: Option<Addr>,
-}
 
 /// A copy of a host's heap, which [`why_of`] searches, for a host that can't be called meanwhile. An object with n words has the n addresses from its own on,
 /// and at least one. No two objects share an address.
@@ -93,19 +84,14 @@ impl Snapshot {
     /// address or the link, or if the address is 0 or 2^64 - 1.
     pub fn object(&mut self, object: Addr, first: Listed) -> Result<bool, NoMemory>
         ensures answer { IfOk result (λ done. done ≡ not (is_taken self.old.cells self.old.links object first.link)) }
-        ensures listed { DoesOrNot result (Lists self.old.cells self.new.cells self.old.links self.new.links object (record { object = object; value = first.value; link = first.link })) (Keeps self.old.cells self.new.cells self.old.links self.new.links) }
+        ensures listed { DoesOrNot result (Lists self.old.cells self.new.cells self.old.links self.new.links object (cell_of object first)) (Keeps self.old.cells self.new.cells self.old.links self.new.links) }
         ensures roots { self.new.roots ≡ self.old.roots }
     {
         let _ = &self.cells;
         if self.is_taken(object, first.link) {
             return Ok(false);
         }
-        let cell = Cell {
-            object,
-            value: first.value,
-            link: first.link,
-        };
-        self.add(object, cell)?;
+        self.add(object, cell_of(object, first))?;
         Ok(true)
     }
 
@@ -113,7 +99,7 @@ impl Snapshot {
     /// if another word has the address or the link, or if the address is 0 or 2^64 - 1.
     pub fn word(&mut self, word: Addr, listed: Listed) -> Result<bool, NoMemory>
         ensures answer { IfOk result (λ done. done ≡ (is_some (holder_of self.old.cells (word - 1)) && not (is_taken self.old.cells self.old.links word listed.link))) }
-        ensures listed { DoesOrNot result ((object : ℕ) × (holder_of self.old.cells (word - 1) ≡ Some object) × Lists self.old.cells self.new.cells self.old.links self.new.links word (record { object = object; value = listed.value; link = listed.link })) (Keeps self.old.cells self.new.cells self.old.links self.new.links) }
+        ensures listed { DoesOrNot result ((object : ℕ) × (holder_of self.old.cells (word - 1) ≡ Some object) × Lists self.old.cells self.new.cells self.old.links self.new.links word (cell_of object listed)) (Keeps self.old.cells self.new.cells self.old.links self.new.links) }
         ensures roots { self.new.roots ≡ self.old.roots }
     {
         let _ = &self.cells;
@@ -123,12 +109,7 @@ impl Snapshot {
         let Some(object) = self.holder(word - 1) else {
             return Ok(false);
         };
-        let cell = Cell {
-            object,
-            value: listed.value,
-            link: listed.link,
-        };
-        self.add(word, cell)?;
+        self.add(word, cell_of(object, listed))?;
         Ok(true)
     }
 
@@ -185,6 +166,25 @@ impl Snapshot {
         }
         true
     }
+
+    /// Whether the keys of all short ephemerons were listed.
+    pub(crate) fn has_keys(&self, finalizers: &Finalizers) -> bool
+        ensures { IsTrue result ↔ AreTargets (objects_of self.now.cells) finalizers.now.state.ephemerons.short }
+    {
+        for each in finalizers.iter_ephemerons(LinkKind::Short) {
+            if !self.contains(each.1) {
+                return false;
+            }
+        }
+        true
+    }
+
+    /// Whether all registered objects were listed, the targets of all short links, and the keys of all short ephemerons.
+    pub(crate) fn is_sound(&self, finalizers: &Finalizers) -> bool
+        ensures { IsTrue result ↔ HasAll (objects_of self.now.cells) finalizers.now.state }
+    {
+        self.has_registered(finalizers) && self.has_targets(finalizers) && self.has_keys(finalizers)
+    }
 }
 
 impl Paths for Snapshot {
@@ -195,6 +195,8 @@ impl Paths for Snapshot {
     ghost roots = { λ s. s.roots };
 
     ghost place = { λ s. place_of s.cells s.links };
+
+    ghost value = { λ s. value_of s.cells s.links };
 
     ghost link = { λ s. link_of s.cells s.links };
 
@@ -226,6 +228,26 @@ impl Paths for Snapshot {
         if denoted == word { Some(number) } else { None }
     }
 
+    fn word_of(&self, number: Addr) -> Option<Addr> {
+        let word = *self.links.get(&number)?;
+        let cell = self.cells.get(&word)?;
+        if cell.link == Some(number) {
+            Some(word)
+        } else {
+            None
+        }
+    }
+
+    fn value(&self, number: Addr) -> Option<Addr> {
+        let word = self.word_of(number)?;
+        let cell = self.cells.get(&word)?;
+        if cell.value == HIDDEN {
+            self.holder(cell.hidden)
+        } else {
+            None
+        }
+    }
+
     fn target(&self, word: Word) -> Option<Addr> {
         self.holder(word)
     }
@@ -233,26 +255,26 @@ impl Paths for Snapshot {
     ghost are_pointers = { λ s a. words_point s.cells a };
 
     ghost are_links = { λ s. links_found s.cells s.links };
+
+    ghost are_values = { λ s. values_stay s.cells s.links };
 }
 
 /// Why an object isn't finalized, by a copy of its host's heap, with a path as evidence. The copy has to have the host's objects as they are: those that roots
 /// and registered objects reach, with all their words.
 ///
-/// `None` if a registered object or the target of a short link wasn't listed. Takes time as [`why`] does, and for the registrations and short links. Fails with
-/// `NoMemory` if an allocation fails. Nothing changes in any case.
+/// An ephemeron whose word wasn't listed has no value. `None` if a registered object, the target of a short link or the key of a short ephemeron wasn't listed.
+/// Takes time as [`why`] does, and for the registrations, short links and short ephemerons. Fails with `NoMemory` if an allocation fails. Nothing changes in any
+/// case.
 pub fn why_of(
     alloc: Global,
     finalizers: &Finalizers,
     snapshot: &Snapshot,
     object: Addr,
 ) -> Result<Option<Reason>, NoMemory>
-    ensures told { IfOk result (λ told. MatchOption told (AreRegistered (objects_of snapshot.now.cells) finalizers.now.state.registrations → AreTargets (objects_of snapshot.now.cells) finalizers.now.state.short → ⊥) (λ reason. IsToldOf (place_of snapshot.now.cells snapshot.now.links) (objects_of snapshot.now.cells) snapshot.now.roots finalizers.now.state reason object)) }
+    ensures told { IfOk result (λ told. MatchOption told (HasAll (objects_of snapshot.now.cells) finalizers.now.state → ⊥) (λ reason. IsToldIn snapshot.now finalizers.now.state reason object)) }
 {
     let _ = &snapshot.cells;
-    if !snapshot.has_registered(finalizers) {
-        return Ok(None);
-    }
-    if !snapshot.has_targets(finalizers) {
+    if !snapshot.is_sound(finalizers) {
         return Ok(None);
     }
     let reason = why(alloc, finalizers, snapshot, object)?;

@@ -3,13 +3,12 @@
 ghost use Rattle.std.specs.Prelude.{◌≡◌, ◌++◌, ◌∷◌, [], filter, IfOk, MatchOption, OnOk, None};
 ghost use Rattle.std.specs.Map.{keys_of};
 ghost use Rattle.fz_model.specs.Memory.{points};
-ghost use Rattle.fz_model.specs.Pass.{cleared};
 ghost use Rattle.fz_pass.specs.Marks.{AreRegistered, AreTargets};
-ghost use Rattle.fz_pass.specs.Places.{placed};
 ghost use Rattle.fz_finalizers.specs.Walks.{registrations_in_order};
-ghost use Rattle.fz_why.specs.Snapshot.{objects_of, place_of};
+ghost use Rattle.fz_why.specs.Snapshot.{HasAll, objects_of};
+ghost use Rattle.fz_why.specs.Copies.{AreStuckIn};
 ghost use Rattle.fz_why.specs.Why.{AreStuck, IsUnfound, WithFound};
-ghost use Rattle.fz_why.specs.Trail.{has, is_behind, is_stuck_by, Adds, IsByCircle, IsByCircles, IsReachedTrail, IsSound};
+ghost use Rattle.fz_why.specs.Trail.{has, is_behind, is_stuck_by, Adds, IsByCircle, IsByCircles, IsFoundOf, IsRingsTrail};
 
 use crate::paths::Paths;
 use crate::room::{NoMemory, push};
@@ -32,9 +31,9 @@ fn add_circle<H: Paths>(
     registration: Registration,
     trail: &mut Trail,
 ) -> Result<(), NoMemory>
-    requires sound { IsSound (H.objects host.now) finalizers.now.state }
-    requires unfound { IsUnfound (H.place host.now) (H.objects host.now) finalizers.now.state (has found.now) from registration }
-    ensures added { OnOk result (Adds (IsByCircle (H.place host.now) (H.objects host.now) finalizers.now.state (has found.now) from) trail.old trail.new) }
+    requires found { IsFoundOf (H.place host.now) (H.value host.now) (H.objects host.now) finalizers.now.state (has found.now) }
+    requires unfound { IsUnfound (H.place host.now) (H.value host.now) (H.objects host.now) finalizers.now.state (has found.now) from registration }
+    ensures added { OnOk result (Adds (IsByCircle (H.place host.now) (H.value host.now) (H.objects host.now) finalizers.now.state (has found.now) from) trail.old trail.new) }
 {
     let circle = reach_itself(alloc, finalizers, host, found, from, registration.kind)?;
     if !circle.contains(from) {
@@ -60,8 +59,8 @@ fn add_ring<H: Paths>(
     from: Addr,
     trail: &mut Trail,
 ) -> Result<(), NoMemory>
-    requires { IsSound (H.objects host.now) finalizers.now.state }
-    ensures added { OnOk result (Adds (IsByCircle (H.place host.now) (H.objects host.now) finalizers.now.state (has found.now) from) trail.old trail.new) }
+    requires { IsFoundOf (H.place host.now) (H.value host.now) (H.objects host.now) finalizers.now.state (has found.now) }
+    ensures added { OnOk result (Adds (IsByCircle (H.place host.now) (H.value host.now) (H.objects host.now) finalizers.now.state (has found.now) from) trail.old trail.new) }
 {
     if found.contains(from) {
         return Ok(());
@@ -83,8 +82,8 @@ fn add_rings<H: Paths>(
     found: &Trail,
     trail: &mut Trail,
 ) -> Result<(), NoMemory>
-    requires { IsSound (H.objects host.now) finalizers.now.state }
-    ensures added { OnOk result (Adds (IsByCircles (H.place host.now) (H.objects host.now) finalizers.now.state (has found.now)) trail.old trail.new) }
+    requires { IsFoundOf (H.place host.now) (H.value host.now) (H.objects host.now) finalizers.now.state (has found.now) }
+    ensures added { OnOk result (Adds (IsByCircles (H.place host.now) (H.value host.now) (H.objects host.now) finalizers.now.state (has found.now)) trail.old trail.new) }
 {
     for each in finalizers.iter() {
         add_ring(alloc, finalizers, host, found, each.0, trail)?;
@@ -99,12 +98,12 @@ fn reach_rings<H: Paths>(
     host: &H,
     found: &Trail,
 ) -> Result<Trail, NoMemory>
-    requires { IsSound (H.objects host.now) finalizers.now.state }
-    ensures reached { IfOk result (λ t. IsReachedTrail (cleared (placed (H.place host.now) finalizers.now.state.short) (has found.now) (H.objects host.now)) (IsByCircles (H.place host.now) (H.objects host.now) finalizers.now.state (has found.now)) t) }
+    requires { IsFoundOf (H.place host.now) (H.value host.now) (H.objects host.now) finalizers.now.state (has found.now) }
+    ensures reached { IfOk result (λ t. IsRingsTrail (H.place host.now) (H.value host.now) (H.objects host.now) finalizers.now.state found.now t) }
 {
     let mut trail = Trail::new(alloc);
     add_rings(alloc, finalizers, host, found, &mut trail)?;
-    spread(finalizers, host, Some(found), &mut trail)?;
+    spread(finalizers, host, Some(found), None, &mut trail)?;
     Ok(trail)
 }
 
@@ -146,8 +145,9 @@ fn list(
 /// Lists the registered objects that wait for a ring: those on a ring, and those to which one leads. No pass queues them as long as their words and
 /// registrations stay. Each is listed once, in the order of `Finalizers::iter`.
 ///
-/// Like [`why`](crate::why), it may be called at any time outside of a pass. It takes words as they are once dead short links are cleared, and requires that
-/// registered objects and the targets of links are the host's objects.
+/// Like [`why`](crate::why), it may be called at any time outside of a pass. It takes words and values of ephemerons as `why` does, and requires that registered
+/// objects, the targets of links and the keys of ephemerons are the host's objects. A ring that goes through the value of an ephemeron stays as long as the
+/// ephemeron stays, and its key and the object that contains its word are retained as they are.
 ///
 /// Takes the time of `why` for each unreachable registered object, and memory for each object that is reached. Fails with `NoMemory` if an allocation fails.
 /// Nothing changes in any case.
@@ -158,9 +158,11 @@ pub fn stuck<H: Paths>(
 ) -> Result<Vec<Addr>, NoMemory>
     requires registered { AreRegistered (H.objects host.now) finalizers.now.state.registrations }
     requires short { AreTargets (H.objects host.now) finalizers.now.state.short }
+    // Keys are objects.
+    requires keys { AreTargets (H.objects host.now) finalizers.now.state.ephemerons.short }
     // A cleared word points to nothing.
     requires zero { points (H.objects host.now) 0 ≡ None }
-    ensures listed { IfOk result (λ objects. WithFound (H.objects host.now) (H.roots host.now) finalizers.now.state (λ found. AreStuck (H.place host.now) (H.objects host.now) finalizers.now.state found (registrations_in_order finalizers.now) objects.items)) }
+    ensures listed { IfOk result (λ objects. WithFound (H.place host.now) (H.value host.now) (H.objects host.now) (H.roots host.now) finalizers.now.state (λ found. AreStuck (H.place host.now) (H.value host.now) (H.objects host.now) finalizers.now.state found (registrations_in_order finalizers.now) objects.items)) }
 {
     let found = find(alloc, finalizers, host)?;
     let reached = reach_rings(alloc, finalizers, host, &found)?;
@@ -171,19 +173,16 @@ pub fn stuck<H: Paths>(
 /// Lists the registered objects that wait for a ring, by a copy of their host's heap, as [`stuck`] does. The copy has to have what
 /// [`why_of`](crate::why_of) needs.
 ///
-/// `None` if a registered object or the target of a short link wasn't listed. Fails with `NoMemory` if an allocation fails. Nothing changes in any case.
+/// `None` if a registered object, the target of a short link or the key of a short ephemeron wasn't listed. Fails with `NoMemory` if an allocation fails. Nothing changes in any case.
 pub fn stuck_of(
     alloc: Global,
     finalizers: &Finalizers,
     snapshot: &Snapshot,
 ) -> Result<Option<Vec<Addr>>, NoMemory>
-    ensures listed { IfOk result (λ answer. MatchOption answer (AreRegistered (objects_of snapshot.now.cells) finalizers.now.state.registrations → AreTargets (objects_of snapshot.now.cells) finalizers.now.state.short → ⊥) (λ listed. WithFound (objects_of snapshot.now.cells) snapshot.now.roots finalizers.now.state (λ found. AreStuck (place_of snapshot.now.cells snapshot.now.links) (objects_of snapshot.now.cells) finalizers.now.state found (registrations_in_order finalizers.now) listed.items))) }
+    ensures listed { IfOk result (λ answer. MatchOption answer (HasAll (objects_of snapshot.now.cells) finalizers.now.state → ⊥) (λ listed. AreStuckIn snapshot.now finalizers.now.state (registrations_in_order finalizers.now) listed.items)) }
 {
     let _ = &snapshot.cells;
-    if !snapshot.has_registered(finalizers) {
-        return Ok(None);
-    }
-    if !snapshot.has_targets(finalizers) {
+    if !snapshot.is_sound(finalizers) {
         return Ok(None);
     }
     let objects = stuck(alloc, finalizers, snapshot)?;

@@ -1,15 +1,19 @@
--- Which words the heap lists of a record, and by which words it finds links.
+-- Which words the heap lists of a record, by which words it finds links, and which values ephemerons have once words are cleared.
 -- code: own_heap/src/paths.rt
-use Rattle.std.proofs.Common.{◌≡◌, ℕ, List, [], Option, Some, None, refl, sym, ap, ◌∙◌, subst, arith}
+use Rattle.std.proofs.Common.{◌≡◌, ℕ, ◌-◌, Bool, true, false, cond, if◌then◌else◌, List, [], Option, Some, None, refl, sym, ap, ◌∙◌, subst, arith}
+use Rattle.std.specs.Option.{option_map_or}
 use Rattle.std.proofs.lemmas.Option.{none-some, same_Some}
 use Rattle.std.specs.FinMap.{get}
 use Rattle.fz_model.specs.declared.kinds.ObjKind.{ObjKind}
 use Rattle.fz_model.specs.declared.kinds.ObjKind.TheVariants.{Scanned, Atomic}
+use Rattle.fz_model.specs.Memory.{points, filled, word_at}
 use Rattle.fz_model.specs.State.{Map, Object}
+use Rattle.fz_model.proofs.SeenKept.{points-filled}
 use Rattle.fz_why.specs.declared.paths.Pointer.{Pointer}
-use Rattle.fz_why.specs.Paths.{AreLinks, ArePointers, all_pointers}
-use Rattle.fz_why.specs.Hosts.{are_all}
+use Rattle.fz_why.specs.Paths.{AreLinks, ArePointers, AreValues, all_pointers}
+use Rattle.fz_why.specs.Hosts.{are_all, word_filled}
 use Rattle.own_heap.specs.Outside.{place_of_link, place_itself}
+use Rattle.own_heap.specs.Records.{value_of}
 
 -- all words of an object, if it is scanned
 abbrev pub of_kind : List Pointer → ObjKind → List Pointer
@@ -47,3 +51,25 @@ turned a b is = let same = place_itself b a is in ap place_of_link (sym same) �
 
 pub links_found : AreLinks place_of_link place_of_link
 links_found number word = (turned number word, turned word number)
+
+-- a field that is cleared hides nothing, and each other field hides what it hid
+pub values_stay : AreValues place_of_link value_of
+values_stay objects test number none placed = start ∙ one (place_of_link number) refl (test number) refl
+  where
+    start : value_of (filled test 0 objects) number ≡ points objects (cond (test number) 0 (word_at objects number) - 4)
+    start = points-filled test 0 objects (word_at (filled test 0 objects) number - 4) ∙ ap (λ w. points objects (w - 4)) (word_filled test objects number)
+
+    -- of a word that is zero, and of one that isn't
+    cleared : (b : Bool) → test number ≡ b → points objects (cond (test number) 0 (word_at objects number) - 4) ≡ (if b then None else value_of objects number)
+    cleared true on = ap (λ b. points objects (cond b 0 (word_at objects number) - 4)) on ∙ none
+    cleared false off = ap (λ b. points objects (cond b 0 (word_at objects number) - 4)) off
+
+    one : (p : Option ℕ) → place_of_link number ≡ p → (b : Bool) → test number ≡ b → points objects (cond (test number) 0 (word_at objects number) - 4) ≡ (if option_map_or test (place_of_link number) false then None else value_of objects number)
+    one None nowhere true on =
+        let link = placed number on in
+        let same = place_itself link.0 number link.1 in
+        absurd (none-some number (sym nowhere ∙ ap place_of_link (sym same) ∙ link.1))
+    one None nowhere false off = cleared false off ∙ sym (ap (λ p. if option_map_or test p false then None else value_of objects number) nowhere)
+    one (Some word) at b is =
+        let same = place_itself number word at in
+        cleared b is ∙ sym (ap (λ p. if option_map_or test p false then None else value_of objects number) at ∙ ap (λ w. if test w then None else value_of objects number) (sym same) ∙ ap (λ c. if c then None else value_of objects number) is)

@@ -1,8 +1,8 @@
 //! The heap as a host that lists its roots and words.
 
-ghost use Rattle.own_heap.specs.Records.{addresses_of, objects_of};
+ghost use Rattle.own_heap.specs.Records.{addresses_of, objects_of, value_of};
 ghost use Rattle.own_heap.specs.Outside.{place_of_link};
-ghost use Rattle.own_heap.specs.Pointing.{links_found, records_point, words_listed};
+ghost use Rattle.own_heap.specs.Pointing.{links_found, records_point, values_stay, words_listed};
 
 use crate::heap::Heap;
 use crate::record::place_of_link;
@@ -17,6 +17,8 @@ impl Paths for Heap {
     ghost roots = { λ h. addresses_of h.roots.items };
 
     ghost place = { λ h. place_of_link };
+
+    ghost value = { λ h. value_of };
 
     ghost link = { λ h. place_of_link };
 
@@ -36,6 +38,14 @@ impl Paths for Heap {
         place_of_link(word)
     }
 
+    fn word_of(&self, number: Addr) -> Option<Addr> {
+        place_of_link(number)
+    }
+
+    fn value(&self, number: Addr) -> Option<Addr> {
+        self.records.value(number)
+    }
+
     fn target(&self, word: Word) -> Option<Addr> {
         self.records.holder(word)
     }
@@ -43,4 +53,6 @@ impl Paths for Heap {
     ghost are_pointers = { λ h a. records_point (objects_of h.records.slots.items) a };
 
     ghost are_links = { λ h. links_found };
+
+    ghost are_values = { λ h. values_stay };
 }

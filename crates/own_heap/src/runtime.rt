@@ -9,7 +9,7 @@ ghost use Rattle.fz_finalizers.specs.Causes.{IsJudgedBy, IsJudgedOrLacks, add_ca
 ghost use Rattle.fz_finalizers.specs.States.{HasRooms, IsRoomier, links_of, opening, room_of, waiting};
 ghost use Rattle.fz_finalizers.specs.Follows.{Follows, Register, Unregister, Link, Unlink, Move, Ephemeron, EndEphemeron, MoveEphemeron, AddCleanup, Cancel, Take, Finish, next_pass};
 ghost use Rattle.own_heap.specs.Outside.{place_of_link};
-ghost use Rattle.own_heap.specs.Records.{address_of, addresses_of, objects_of, slot, with_field, IsFull, IsMade};
+ghost use Rattle.own_heap.specs.Records.{address_of, addresses_of, objects_of, slot, value_of, with_field, IsFull, IsMade};
 ghost use Rattle.fz_pass.specs.Marks.{IsClosed};
 ghost use Rattle.fz_finalizers.specs.Walks.{registrations_in_order};
 ghost use Rattle.fz_why.specs.Why.{AreStuck, IsToldOf, WithFound};
@@ -285,14 +285,14 @@ impl Runtime {
 
     /// Why a record isn't finalized, as `fz_why::why` says.
     pub fn why(&self, alloc: Global, id: RecordId) -> Result<Reason, NoMemory>
-        ensures told { IfOk result (λ reason. IsToldOf place_of_link (objects_of self.now.heap.records.slots.items) (addresses_of self.now.heap.roots.items) self.now.finalizers.state reason (address_of id.place)) }
+        ensures told { IfOk result (λ reason. IsToldOf place_of_link value_of (objects_of self.now.heap.records.slots.items) (addresses_of self.now.heap.roots.items) self.now.finalizers.state reason (address_of id.place)) }
     {
         why(alloc, &self.finalizers, &self.heap, id.address())
     }
 
     /// Which records wait for a ring, as `fz_why::stuck` says, by their addresses.
     pub fn stuck(&self, alloc: Global) -> Result<Vec<Addr>, NoMemory>
-        ensures listed { IfOk result (λ objects. WithFound (objects_of self.now.heap.records.slots.items) (addresses_of self.now.heap.roots.items) self.now.finalizers.state (λ found. AreStuck place_of_link (objects_of self.now.heap.records.slots.items) self.now.finalizers.state found (registrations_in_order self.now.finalizers) objects.items)) }
+        ensures listed { IfOk result (λ objects. WithFound place_of_link value_of (objects_of self.now.heap.records.slots.items) (addresses_of self.now.heap.roots.items) self.now.finalizers.state (λ found. AreStuck place_of_link value_of (objects_of self.now.heap.records.slots.items) self.now.finalizers.state found (registrations_in_order self.now.finalizers) objects.items)) }
     {
         stuck(alloc, &self.finalizers, &self.heap)
     }

@@ -15,10 +15,13 @@
 (print (weak-table-count table) " row: " (weak-table-ref table a #f))
 (print table)
 
-; A row keeps its value, up to the collection that finds the key lost.
+; A row keeps its value, up to the collection that finds the key lost. (why weak) tells by which row.
 (define weak (weak-cons (weak-table-ref table a #f) 0))
 (collect)
 (print "kept: " (car weak))
+(define steps (why weak))
+(print steps)
+(set! steps 0)
 (set! a 0)
 (collect)
 (print "lost: " (car weak) " " (weak-table-count table))

@@ -1,8 +1,6 @@
 //! Opening and freeing handles.
 
-ghost use Rattle.std.specs.Prelude.{◌≡◌, None, IfOk};
-ghost use Rattle.fz_finalizers.specs.States.{opening};
-ghost use Rattle.fz_machine.specs.Machines.{IsIdle};
+ghost use Rattle.std.specs.Prelude.{◌≡◌, None};
 ghost use Rattle.fz_c.specs.MachineChanges.{Reserves, Shrinks};
 ghost use Rattle.fz_c.specs.MachineCodes.{Behind};
 ghost use Rattle.fz_c.specs.MachineOpens.{Opens};
@@ -11,37 +9,24 @@ use crate::handle::{behind, put, take};
 use crate::machine::codes::{Code, IS_OPEN, NO_MEMORY, NOT_OPEN, OK, code_of};
 use crate::machine::handle::MachineHandle;
 use crate::machine::session::MachineSession;
-use fz_finalizers::Refused;
-use fz_machine::Machine;
+use fz_machine::{By, Machine};
 use std::alloc::Global;
 
-/// Finalizers without registrations, whose passes ask about regions or not.
-fn made(alloc: Global, marks: bool) -> Result<Machine, Refused>
-    ensures finalizers { IfOk result (λ m. m.finalizers.state ≡ opening) }
-    ensures idle { IfOk result (λ m. IsIdle m) }
-    ensures noted { IfOk result (λ m. (m.by_regions ≡ marks) × (m.noted ≡ marks)) }
-{
-    if marks {
-        Machine::with_regions(alloc)
-    } else {
-        Machine::new(alloc)
-    }
-}
-
-/// Creates finalizers in an empty handle. With `marks` their passes ask about regions.
+/// Creates finalizers in an empty handle. With `marks` their passes ask about regions of objects, and with `live` about regions of words.
 #[unsafe(no_mangle)]
 pub extern "C" fn fz_machine_open(
     alloc: Global,
     finalizers: &mut MachineHandle,
     marks: bool,
+    live: bool,
 ) -> Code
-    ensures { Opens marks finalizers.old.value finalizers.new.value result }
+    ensures { Opens (record { marks = marks; live = live }) finalizers.old.value finalizers.new.value result }
 {
     if let Some(session) = take(finalizers, alloc) {
         put(finalizers, session);
         return IS_OPEN;
     }
-    let Ok(machine) = made(alloc, marks) else {
+    let Ok(machine) = Machine::with_regions(alloc, By { marks, live }) else {
         return NO_MEMORY;
     };
     let Ok(session) = Box::new(alloc, MachineSession { machine }) else {

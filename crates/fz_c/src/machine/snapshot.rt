@@ -27,7 +27,7 @@ fn code_for(reply: Result<bool, NoMemory>) -> Code
     }
 }
 
-/// The link with this number. The number 0 is that of no link.
+/// The link or ephemeron with this number. The number 0 is that of none.
 fn link_for(number: u64) -> Option<u64>
     ensures { result ≡ link_for number }
 {
@@ -70,12 +70,14 @@ pub extern "C" fn fz_snapshot_object(
     object: u64,
     value: u64,
     link: u64,
+    is_ephemeron: bool,
 ) -> Code
-    ensures { Behind snapshot.old.value snapshot.new.value result (Unit {0}) (ListsObject object value (link_for link) result) }
+    ensures { Behind snapshot.old.value snapshot.new.value result (Unit {0}) (ListsObject object (record { value = value; link = link_for link; is_ephemeron = is_ephemeron }) result) }
 {
     let first = Listed {
         value,
         link: link_for(link),
+        is_ephemeron,
     };
     let reply = behind!(
         alloc,
@@ -94,12 +96,14 @@ pub extern "C" fn fz_snapshot_word(
     word: u64,
     value: u64,
     link: u64,
+    is_ephemeron: bool,
 ) -> Code
-    ensures { Behind snapshot.old.value snapshot.new.value result (Unit {0}) (ListsWord word value (link_for link) result) }
+    ensures { Behind snapshot.old.value snapshot.new.value result (Unit {0}) (ListsWord word (record { value = value; link = link_for link; is_ephemeron = is_ephemeron }) result) }
 {
     let listed = Listed {
         value,
         link: link_for(link),
+        is_ephemeron,
     };
     let reply = behind!(
         alloc,

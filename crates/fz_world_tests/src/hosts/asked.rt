@@ -137,8 +137,8 @@ impl Graph {
                 false
             }
             Ask::MarkValue => self.mark_value(about),
-            // `marks_of` answers this.
-            Ask::Marks => false,
+            // `marks_of` answers these.
+            Ask::Marks | Ask::Live => false,
         }
     }
 }

@@ -1,10 +1,10 @@
-//! Finalizers that ask for the marks of regions, beside finalizers that ask about each object: both queue the same entries, clear the same words, and mark the
+//! Finalizers that ask about regions, beside finalizers that ask about each object and each word: both queue the same entries, clear the same words, and mark the
 //! same objects.
 
 use crate::equal::must_be;
 use crate::hosts::beside::Random;
-use fz_finalizers::{Addr, Finalizer, Kind, LinkKind, Passed};
-use fz_machine::{Ask, BATCH, Machine, Next, Step};
+use fz_finalizers::{Addr, Cleanup, Finalizer, Kind, LinkKind, Passed};
+use fz_machine::{Ask, BATCH, By, Machine, Next, Step};
 use std::alloc::Global;
 use std::process::Abort;
 use std::test::*;
@@ -12,8 +12,10 @@ use std::test::*;
 /// The number of objects.
 const OBJECTS: usize = 90;
 
-/// The number of a link's word. An object's words have other numbers.
+/// The number of the first object's word that is a link's, and the distance to the next one's. An object's words have other numbers.
 const FIRST_WORD: u64 = 1 << 40;
+
+const WORD: u64 = 8;
 
 /// Objects, each with a word that refers to another object or to none.
 #[derive(Drop)]
@@ -45,6 +47,12 @@ impl Heap {
             return false;
         };
         self.marked.get(index).copied().unwrap_or(false)
+    }
+
+    /// Whether the object that has the word of a link is marked.
+    fn is_held(&self, word: Addr) -> bool {
+        let index = word.saturating_sub(FIRST_WORD) / WORD;
+        self.marked.get(index as usize).copied().unwrap_or(true)
     }
 
     fn word(&self, index: usize) -> Option<usize> {
@@ -84,7 +92,7 @@ impl Heap {
     fn answer(&mut self, ask: Ask, about: Addr) -> bool {
         match ask {
             Ask::IsMarked => return self.is_marked(about),
-            Ask::IsHolderMarked => return true,
+            Ask::IsHolderMarked => return self.is_held(about),
             Ask::MarkChildren => self.mark_children(about, false),
             Ask::MarkOthers => self.mark_children(about, true),
             Ask::Mark => self.mark(self.at(about)),
@@ -94,7 +102,7 @@ impl Heap {
                 }
             }
             Ask::Clear => self.cleared = self.cleared.wrapping_mul(31).wrapping_add(about),
-            Ask::Marks | Ask::MarkValue => {}
+            Ask::Marks | Ask::Live | Ask::MarkValue => {}
         }
         false
     }
@@ -114,9 +122,20 @@ impl Heap {
         }
         marks
     }
+
+    /// Which places of a region lie in marked objects.
+    fn live(&self, region: Addr) -> u64 {
+        let mut live = 0;
+        for place in 0..64 {
+            if self.is_held(region.wrapping_add(place * 16)) {
+                live |= 1 << place;
+            }
+        }
+        live
+    }
 }
 
-/// A heap with its finalizers, and how many questions of a pass were about regions, and about registered objects of `Objects`.
+/// A heap with its finalizers, and how many questions were about regions.
 #[derive(Drop)]
 struct Side {
     heap: Heap,
@@ -130,10 +149,11 @@ fn answer(side: &mut Side, ask: Ask, about: &[Addr]) -> (u64, [u64; BATCH]) {
     let mut marks = [0; BATCH];
     let mut bit: u64 = 1;
     for (word, subject) in marks.iter_mut().zip(about.iter()) {
-        if ask == Ask::Marks {
-            *word = side.heap.marks(*subject);
-        } else if side.heap.answer(ask, *subject) {
-            bits |= bit;
+        match ask {
+            Ask::Marks => *word = side.heap.marks(*subject),
+            Ask::Live => *word = side.heap.live(*subject),
+            _ if side.heap.answer(ask, *subject) => bits |= bit,
+            _ => {}
         }
         bit = bit.wrapping_mul(2);
     }
@@ -150,7 +170,7 @@ fn pass(rt: &impl Abort, side: &mut Side) -> Passed {
             break;
         };
         let (bits, marks) = answer(side, ask, &about[..count.min(BATCH)]);
-        step = if ask == Ask::Marks {
+        step = if side.machine.asks_marks() {
             side.by_regions = side.by_regions.saturating_add(1);
             side.machine.next_marks(&marks, &mut about)
         } else {
@@ -166,14 +186,14 @@ fn pass(rt: &impl Abort, side: &mut Side) -> Passed {
     }
 }
 
-/// Two heaps with the same objects. One side asks for marks of regions.
+/// Two heaps with the same objects. One side asks about regions.
 #[derive(Drop)]
 struct Both {
     items: Side,
     regions: Side,
 }
 
-fn two_sides(rt: &impl Abort, alloc: Global, starts: [Addr; OBJECTS]) -> Both {
+fn two_sides(rt: &impl Abort, alloc: Global, starts: [Addr; OBJECTS], by: By) -> Both {
     Both {
         items: Side {
             heap: Heap::new(starts),
@@ -182,7 +202,7 @@ fn two_sides(rt: &impl Abort, alloc: Global, starts: [Addr; OBJECTS]) -> Both {
         },
         regions: Side {
             heap: Heap::new(starts),
-            machine: Machine::with_regions(alloc).expect(rt, "memory"),
+            machine: Machine::with_regions(alloc, by).expect(rt, "memory"),
             by_regions: 0,
         },
     }
@@ -221,15 +241,46 @@ fn register(rt: &impl Abort, side: &mut Side, start: Addr, turn: Turn) {
         .expect(rt, "a registration");
 }
 
-/// Makes a link to an object.
-fn link(rt: &impl Abort, side: &mut Side, start: Addr, turn: Turn) {
-    let kind = if turn.rank == 0 {
+/// The kind of a link, or the moment of a cleanup.
+fn link_kind(turn: Turn) -> LinkKind {
+    if turn.rank == 0 {
         LinkKind::Long
     } else {
         LinkKind::Short
-    };
-    let word = FIRST_WORD.saturating_add(turn.index as u64);
+    }
+}
+
+/// The word of a link in an object.
+fn word_of(index: usize) -> Addr {
+    FIRST_WORD.saturating_add(WORD.saturating_mul(index as u64))
+}
+
+/// Makes a link to an object.
+fn link(rt: &impl Abort, side: &mut Side, start: Addr, turn: Turn) {
+    let kind = link_kind(turn);
+    let word = word_of(turn.other % OBJECTS);
     side.machine.link(kind, word, start).expect(rt, "a link");
+}
+
+/// Moves a link to another word.
+fn move_link(rt: &impl Abort, side: &mut Side, turn: Turn) {
+    let kind = link_kind(turn);
+    let from = word_of(turn.index);
+    let to = word_of(turn.other % OBJECTS);
+    side.machine.move_link(kind, from, to).expect(rt, "no pass");
+}
+
+/// Adds a cleanup to an object.
+fn add_cleanup(rt: &impl Abort, side: &mut Side, start: Addr, turn: Turn) {
+    let cleanup = Cleanup {
+        when: link_kind(turn),
+        procedure: turn.other as u64,
+        client_data: 0,
+        rank: turn.rank,
+    };
+    side.machine
+        .add_cleanup(start, cleanup)
+        .expect(rt, "a cleanup");
 }
 
 /// Lets the word of an object refer to another object, or to none.
@@ -243,7 +294,7 @@ fn refer(side: &mut Side, turn: Turn) {
     }
 }
 
-/// Registers or links an object, removes its registration, changes its word, or frees memory.
+/// Registers or links an object or adds a cleanup, removes its registration, moves a link, changes a word, or frees memory.
 fn change_one(rt: &impl Abort, side: &mut Side, turn: Turn) {
     let start = side.heap.starts.get(turn.index).copied().unwrap_or(1);
     match turn.what {
@@ -253,6 +304,9 @@ fn change_one(rt: &impl Abort, side: &mut Side, turn: Turn) {
         }
         5 => link(rt, side, start, turn),
         6 => side.machine.shrink().expect(rt, "no pass"),
+        7 => add_cleanup(rt, side, start, turn),
+        8 => move_link(rt, side, turn),
+        9 => link(rt, side, start, turn),
         _ => refer(side, turn),
     }
 }
@@ -262,7 +316,7 @@ fn change(rt: &impl Abort, both: &mut Both, random: &mut Random) {
     let index = random.below(OBJECTS as u64) as usize;
     let other = random.below(2 * OBJECTS as u64) as usize;
     let turn = Turn {
-        what: random.below(8),
+        what: random.below(12),
         index,
         other,
         kind: kind_of(random.below(6)),
@@ -310,7 +364,10 @@ fn compare(rt: &impl Abort, both: &mut Both) {
     let left = both.items.machine.finalizers().registrations();
     let same = both.regions.machine.finalizers().registrations();
     must_be(rt, same, left, "the same registrations");
-    for _ in 0..OBJECTS {
+    let left = both.items.machine.finalizers().cleanups();
+    let same = both.regions.machine.finalizers().cleanups();
+    must_be(rt, same, left, "the same cleanups");
+    for _ in 0..3 * OBJECTS {
         let entry = both.items.machine.take_finished();
         let same = both.regions.machine.take_finished();
         must_be(rt, same, entry, "the same entries");
@@ -318,8 +375,8 @@ fn compare(rt: &impl Abort, both: &mut Both) {
 }
 
 /// Random changes and collections over objects at these addresses.
-fn run(rt: &impl Abort, alloc: Global, starts: [Addr; OBJECTS], seed: u64) {
-    let mut both = two_sides(rt, alloc, starts);
+fn run(rt: &impl Abort, alloc: Global, starts: [Addr; OBJECTS], by: By, seed: u64) {
+    let mut both = two_sides(rt, alloc, starts, by);
     let mut random = Random(seed);
     let mut live: u64 = 100;
     for _ in 0..8 {
@@ -356,8 +413,12 @@ fn regions_give_what_objects_give(rt: HostRuntime) {
     ]
     .iter()
     {
-        for seed in 0..2 {
-            run(&rt, rt.alloc(), apart(*first, *distance), seed);
+        for (marks, live) in [(true, true), (true, false), (false, true)].iter() {
+            let by = By {
+                marks: *marks,
+                live: *live,
+            };
+            run(&rt, rt.alloc(), apart(*first, *distance), by, *first);
         }
     }
 }
@@ -370,9 +431,15 @@ const NORMAL: Finalizer = Finalizer {
     rank: 0,
 };
 
+/// A pass asks about regions of objects and of words.
+const BY: By = By {
+    marks: true,
+    live: true,
+};
+
 /// A machine with regions and these objects, whose pass has just begun.
 fn begun(rt: &impl Abort, alloc: Global, objects: &[Addr]) -> Machine {
-    let mut machine = Machine::with_regions(alloc).expect(rt, "memory");
+    let mut machine = Machine::with_regions(alloc, BY).expect(rt, "memory");
     for object in objects {
         machine.register(*object, NORMAL).expect(rt, "memory");
     }
@@ -387,7 +454,7 @@ fn must_ask(rt: &impl Abort, step: Step, about: &[Addr; BATCH], count: usize, fi
         count,
     };
     must_be(rt, step, marks, "a question about regions");
-    must_be(rt, about[0], first, "the last region comes first");
+    must_be(rt, about[0], first, "the first region comes first");
 }
 
 #[test]
@@ -396,12 +463,12 @@ fn a_question_is_repeated_until_words_answer_it(rt: HostRuntime) {
     let mut about = [0; BATCH];
     for answers in [0, u64::MAX].iter() {
         let step = machine.next_bits(*answers, &mut about).expect(&rt, "open");
-        must_ask(&rt, step, &about, 2, 8_192);
+        must_ask(&rt, step, &about, 2, 4_096);
     }
     let step = machine.next(&[false; BATCH]).expect(&rt, "open");
     must_be(&rt, matches!(step, Next::Asks(_)), true, "it is repeated");
     let mut marks = [0; BATCH];
-    marks[1] = 1;
+    marks[0] = 1;
     let step = machine.next_marks(&marks, &mut about).expect(&rt, "open");
     let children = Step::Asks {
         ask: Ask::MarkChildren,
@@ -414,8 +481,8 @@ fn a_question_is_repeated_until_words_answer_it(rt: HostRuntime) {
 }
 
 #[test]
-fn a_region_without_registrations_is_not_asked_about(rt: HostRuntime) {
-    let mut machine = Machine::with_regions(rt.alloc()).expect(&rt, "memory");
+fn a_region_without_registrations_goes(rt: HostRuntime) {
+    let mut machine = Machine::with_regions(rt.alloc(), BY).expect(&rt, "memory");
     let mut about = [0; BATCH];
     for object in [1_024, 2_048, 2_048 + 16, 3_072].iter() {
         machine.register(*object, NORMAL).expect(&rt, "memory");
@@ -425,20 +492,54 @@ fn a_region_without_registrations_is_not_asked_about(rt: HostRuntime) {
     }
     machine.begin().expect(&rt, "no other pass");
     let step = machine.next_bits(0, &mut about).expect(&rt, "open");
-    must_ask(&rt, step, &about, 2, 2_048);
-    must_be(&rt, about[1], 1_024, "the first region comes last");
+    must_ask(&rt, step, &about, 3, 1_024);
+    // The others are marked; at these places there is none.
+    let step = machine.next_marks(&[1; BATCH], &mut about);
+    must_be(&rt, matches!(step, Ok(Step::Ended(_))), true, "it ends");
+    machine.begin().expect(&rt, "no other pass");
+    let step = machine.next_bits(0, &mut about).expect(&rt, "open");
+    must_ask(&rt, step, &about, 2, 1_024);
     machine.abandon().expect(&rt, "open");
     for object in [1_024, 2_048].iter() {
         machine.unregister(*object).expect(&rt, "no pass");
     }
+    machine.shrink().expect(&rt, "no pass");
     machine.begin().expect(&rt, "no other pass");
     let ended = machine.next_bits(0, &mut about).expect(&rt, "open");
-    let nothing = Passed { pass: 2, picked: 0 };
+    let nothing = Passed { pass: 3, picked: 0 };
     must_be(&rt, ended, Step::Ended(nothing), "nothing is asked");
     machine.register(2_048 + 16, NORMAL).expect(&rt, "memory");
     machine.begin().expect(&rt, "no other pass");
     let step = machine.next_bits(0, &mut about).expect(&rt, "open");
     must_ask(&rt, step, &about, 1, 2_048);
+}
+
+#[test]
+fn links_and_cleanups_ask_about_regions(rt: HostRuntime) {
+    let mut machine = Machine::with_regions(rt.alloc(), BY).expect(&rt, "memory");
+    let mut about = [0; BATCH];
+    machine
+        .link(LinkKind::Short, FIRST_WORD, 1_024)
+        .expect(&rt, "memory");
+    machine.begin().expect(&rt, "no other pass");
+    let step = machine.next_bits(0, &mut about).expect(&rt, "open");
+    must_ask(&rt, step, &about, 1, 1_024);
+    let step = machine.next_marks(&[1; BATCH], &mut about);
+    let live = Step::Asks {
+        ask: Ask::Live,
+        count: 1,
+    };
+    must_be(
+        &rt,
+        step.expect(&rt, "open"),
+        live,
+        "its word is asked about",
+    );
+    must_be(&rt, about[0], FIRST_WORD, "by its region");
+    let step = machine.next_marks(&[0; BATCH], &mut about);
+    must_be(&rt, matches!(step, Ok(Step::Ended(_))), true, "it ends");
+    let links = machine.finalizers().links(LinkKind::Short);
+    must_be(&rt, links, 0, "the link is removed");
 }
 
 #[test]
@@ -453,9 +554,9 @@ fn a_question_has_at_most_64_regions(rt: HostRuntime) {
     let mut machine = begun(&rt, rt.alloc(), &objects);
     let mut about = [0; BATCH];
     let step = machine.next_bits(0, &mut about).expect(&rt, "open");
-    must_ask(&rt, step, &about, 64, 102_407);
+    must_ask(&rt, step, &about, 64, 1_031);
     let step = machine.next_marks(&[1; BATCH], &mut about);
-    must_ask(&rt, step.expect(&rt, "open"), &about, 36, 36_871);
+    must_ask(&rt, step.expect(&rt, "open"), &about, 36, 66_567);
     let ended = machine.next_marks(&[1; BATCH], &mut about);
     let nothing = Passed { pass: 1, picked: 0 };
     must_be(

@@ -22,15 +22,24 @@ enum Step {
     Holder(Addr, Option<Addr>, bool),
 }
 
+/// A word that isn't an ephemeron's.
+fn listed(value: u64, link: Option<Addr>) -> Listed {
+    Listed {
+        value,
+        link,
+        is_ephemeron: false,
+    }
+}
+
 /// Carries out a step.
 fn carry_out(rt: &impl Abort, snapshot: &mut Snapshot, step: Step) {
     match step {
         Step::Object(object, value, link, want) => {
-            let answer = snapshot.object(object, Listed { value, link });
+            let answer = snapshot.object(object, listed(value, link));
             must_be(rt, answer.expect(rt, "memory"), want, "an object");
         }
         Step::Word(word, value, link, want) => {
-            let answer = snapshot.word(word, Listed { value, link });
+            let answer = snapshot.word(word, listed(value, link));
             must_be(rt, answer.expect(rt, "memory"), want, "a word");
         }
         Step::Holder(word, holder, is_object) => {
@@ -188,6 +197,51 @@ fn a_copy_tells_of_rings(rt: HostRuntime) {
     snapshot.add_root(33).expect(&rt, "memory");
     must_tell(&rt, alloc, &finalizers, &snapshot, 16, 2, &[32, 16]);
     must_be_stuck(&rt, alloc, &finalizers, &snapshot, &[]);
+}
+
+/// 16 has an ephemeron at its word 17, of the key 32 and with the value 48, which points to its key.
+#[test]
+fn a_copy_has_values_of_ephemerons(rt: HostRuntime) {
+    let alloc = rt.alloc();
+    let mut finalizers = Finalizers::new(alloc).expect(&rt, "memory");
+    let mut snapshot = copy_of(&rt, alloc, &[Step::Object(16, 0, None, true)]);
+    let word = Listed {
+        value: 48,
+        link: Some(99),
+        is_ephemeron: true,
+    };
+    let done = snapshot.word(17, word).expect(&rt, "memory");
+    must_be(&rt, done, true, "a word");
+    carry_out(&rt, &mut snapshot, Step::Object(32, 0, None, true));
+    carry_out(&rt, &mut snapshot, Step::Object(48, 32, None, true));
+    snapshot.add_root(20).expect(&rt, "memory");
+    snapshot.add_root(16).expect(&rt, "memory");
+    register(&rt, &mut finalizers, 48, Kind::Normal);
+    must_tell(&rt, alloc, &finalizers, &snapshot, 48, 5, &[]);
+    let _ = finalizers
+        .ephemeron(LinkKind::Long, 99, 32)
+        .expect(&rt, "memory");
+    must_tell(&rt, alloc, &finalizers, &snapshot, 48, 4, &[48, 32, 48]);
+    must_be_stuck(&rt, alloc, &finalizers, &snapshot, &[48]);
+    // A short link at the word cuts the ring, and so does a short ephemeron.
+    let _ = finalizers
+        .link(LinkKind::Short, 99, 32)
+        .expect(&rt, "memory");
+    must_tell(&rt, alloc, &finalizers, &snapshot, 48, 5, &[]);
+    let _ = finalizers.unlink(LinkKind::Short, 99);
+    let _ = finalizers
+        .ephemeron(LinkKind::Short, 99, 32)
+        .expect(&rt, "memory");
+    must_tell(&rt, alloc, &finalizers, &snapshot, 48, 5, &[]);
+    let _ = finalizers
+        .ephemeron(LinkKind::Short, 99, 16)
+        .expect(&rt, "memory");
+    must_tell(&rt, alloc, &finalizers, &snapshot, 48, 2, &[16, 48]);
+    let _ = finalizers
+        .ephemeron(LinkKind::Short, 98, 64)
+        .expect(&rt, "memory");
+    let answer = told(&rt, alloc, &finalizers, &snapshot, 48);
+    must_be(&rt, answer.is_none(), true, "64 is no object");
 }
 
 /// A registered object, or the target of a short link, is an object of no word that was listed.

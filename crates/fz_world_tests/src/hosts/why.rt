@@ -5,7 +5,7 @@ use crate::hosts::beside::Random;
 use fz_finalizers::{Finalizer, Kind, LinkKind};
 use fz_model::Addr;
 use fz_why::{Reason, RootOf};
-use own_heap::Field::{Nothing, Reference};
+use own_heap::Field::{Hidden, Nothing, Reference};
 use own_heap::{FIELDS, OUTSIDE, RecordId, Runtime};
 use std::alloc::Global;
 use std::process::Abort;
@@ -16,6 +16,10 @@ use std::test::*;
 enum Step {
     /// The field of a record refers to another.
     Refer(usize, usize, usize),
+    /// The field of a record hides another.
+    Hide(usize, usize, usize),
+    /// The field of a record becomes an ephemeron of a key.
+    Keyed(LinkKind, usize, usize, usize),
     /// Registers a record of a kind, with another as its client data if it has any.
     Register(usize, Kind, Option<usize>),
     /// The field of a record is a short link to another.
@@ -116,6 +120,25 @@ fn link(rt: &impl Abort, records: &mut Records, word: Addr, to: usize) {
     }
 }
 
+/// Makes a field of a record an ephemeron of a key.
+fn keyed(
+    rt: &impl Abort,
+    records: &mut Records,
+    kind: LinkKind,
+    record: usize,
+    field: usize,
+    key: usize,
+) {
+    let word = id_of(rt, records, record).word(field % FIELDS);
+    let id = id_of(rt, records, key);
+    if records.runtime.heap().stands(id) {
+        records
+            .runtime
+            .ephemeron(kind, word, id)
+            .expect(rt, "an ephemeron");
+    }
+}
+
 /// Takes and finishes the next entry, which is of a record.
 fn finish(rt: &impl Abort, records: &mut Records, record: usize) {
     let entry = records.runtime.take().expect(rt, "an entry");
@@ -135,6 +158,11 @@ fn carry_out(rt: &impl Abort, records: &mut Records, step: Step) {
             let (id, target) = (id_of(rt, records, record), id_of(rt, records, to));
             records.runtime.set(id, field % FIELDS, Reference(target));
         }
+        Step::Hide(record, field, to) => {
+            let (id, target) = (id_of(rt, records, record), id_of(rt, records, to));
+            records.runtime.set(id, field % FIELDS, Hidden(target));
+        }
+        Step::Keyed(kind, record, field, key) => keyed(rt, records, kind, record, field, key),
         Step::Register(record, kind, data) => register(rt, records, record, kind, data),
         Step::Link(record, field, to) => {
             let word = id_of(rt, records, record).word(field % FIELDS);
@@ -288,7 +316,85 @@ const A_LINK_OUTSIDE_OF_THE_HEAP_CUTS_NO_RING: [Step; 8] = [
     Step::Collect(0),
 ];
 
-const ROWS: [&[Step]; 7] = [
+const A_VALUE_IS_RETAINED_BY_KEY_AND_HOLDER: [Step; 9] = [
+    Step::Hide(0, 0, 2),
+    Step::Keyed(LinkKind::Short, 0, 0, 1),
+    Step::Register(2, NORMAL, None),
+    Step::Root(0),
+    Step::Root(1),
+    Step::Tells(2, Told::Found(RootOf::Host(0)), &[0, 2]),
+    Step::Unroot,
+    Step::Tells(2, Told::Ready, &[]),
+    Step::Collect(1),
+];
+
+const A_KEY_IS_NOT_RETAINED_BY_ITS_VALUE: [Step; 8] = [
+    Step::Root(0),
+    Step::Hide(0, 0, 2),
+    Step::Keyed(LinkKind::Long, 0, 0, 1),
+    Step::Refer(2, 0, 1),
+    Step::Register(1, NORMAL, None),
+    Step::Tells(1, Told::Ready, &[]),
+    Step::Stuck(&[]),
+    Step::Collect(1),
+];
+
+/// A value with a finalizer reaches its own key. The holder is reachable, and has the value of another row of this key.
+const A_RING_GOES_THROUGH_A_VALUE: [Step; 14] = [
+    Step::Root(0),
+    Step::Hide(0, 0, 2),
+    Step::Hide(0, 1, 3),
+    Step::Keyed(LinkKind::Long, 0, 0, 1),
+    Step::Keyed(LinkKind::Long, 0, 1, 1),
+    Step::Refer(2, 0, 1),
+    Step::Register(2, NORMAL, None),
+    Step::Register(3, NORMAL, None),
+    Step::Tells(2, Told::Ring, &[2, 1, 2]),
+    Step::Tells(3, Told::Waits, &[2, 1, 3]),
+    Step::Stuck(&[2, 3]),
+    Step::Collect(0),
+    Step::Keyed(LinkKind::Short, 0, 0, 1),
+    Step::Collect(1),
+];
+
+/// One object reaches the key, and another the holder.
+const TWO_HOLD_A_VALUE_BACK: [Step; 9] = [
+    Step::Refer(0, 0, 2),
+    Step::Refer(1, 0, 3),
+    Step::Hide(3, 0, 4),
+    Step::Keyed(LinkKind::Long, 3, 0, 2),
+    Step::Register(0, NORMAL, None),
+    Step::Register(4, NORMAL, None),
+    Step::Tells(4, Told::Ready, &[]),
+    Step::Register(1, NORMAL, None),
+    Step::Tells(4, Told::Waits, &[1, 3, 4]),
+];
+
+/// The object reaches the holder itself: it is on no ring, since another one reaches the key.
+const ANOTHER_REACHES_THE_KEY: [Step; 9] = [
+    Step::Refer(4, 0, 3),
+    Step::Refer(0, 0, 2),
+    Step::Hide(3, 0, 4),
+    Step::Keyed(LinkKind::Long, 3, 0, 2),
+    Step::Register(4, NORMAL, None),
+    Step::Register(0, NORMAL, None),
+    Step::Tells(4, Told::Waits, &[0, 2, 4]),
+    Step::Stuck(&[]),
+    Step::Collect(1),
+];
+
+const AN_UNREACHABLE_ONE_WAITS_FOR_ITS_KEY: [Step; 8] = [
+    Step::Root(0),
+    Step::Hide(0, 0, 2),
+    Step::Keyed(LinkKind::Long, 0, 0, 1),
+    Step::Register(1, Kind::NoOrder, None),
+    Step::Register(2, NORMAL, None),
+    Step::Tells(2, Told::Ready, &[]),
+    Step::Register(2, Kind::Unreachable, None),
+    Step::Tells(2, Told::Waits, &[1, 2]),
+];
+
+const ROWS: [&[Step]; 13] = [
     &A_CHILD_WAITS_FOR_ITS_PARENT,
     &A_RING_OF_ONE_MAY_BE_IGNORED,
     &OWN_CLIENT_DATA_RETAINS,
@@ -296,13 +402,19 @@ const ROWS: [&[Step]; 7] = [
     &AN_UNREACHABLE_ONE_WAITS_FOR_ALL,
     &A_DEAD_SHORT_LINK_CUTS_A_RING,
     &A_LINK_OUTSIDE_OF_THE_HEAP_CUTS_NO_RING,
+    &A_VALUE_IS_RETAINED_BY_KEY_AND_HOLDER,
+    &A_KEY_IS_NOT_RETAINED_BY_ITS_VALUE,
+    &A_RING_GOES_THROUGH_A_VALUE,
+    &TWO_HOLD_A_VALUE_BACK,
+    &ANOTHER_REACHES_THE_KEY,
+    &AN_UNREACHABLE_ONE_WAITS_FOR_ITS_KEY,
 ];
 
-/// The steps of each row are carried out in a new heap of two records.
+/// The steps of each row are carried out in a new heap of five records.
 #[test]
 fn reasons_of_worked_rows(rt: HostRuntime) {
     for steps in ROWS {
-        let mut all = heap_of(&rt, rt.alloc(), 2);
+        let mut all = heap_of(&rt, rt.alloc(), 5);
         for step in steps {
             carry_out(&rt, &mut all, *step);
         }
@@ -319,6 +431,8 @@ struct Plain {
     words: Vec<(usize, usize, usize)>,
     /// Of which fields short links to which records are.
     links: Vec<(usize, usize, usize)>,
+    /// Ephemerons: kind, record, field, key and value of each.
+    rows: Vec<(LinkKind, usize, usize, usize, usize)>,
     /// Kinds and client data of the registered records.
     registered: Vec<(usize, Kind, Option<usize>)>,
     roots: Vec<usize>,
@@ -334,9 +448,11 @@ fn drawn(rt: &impl Abort, alloc: Global, random: &mut Random) -> Plain {
     let mut plain = Plain {
         words: Vec::new(alloc),
         links: Vec::new(alloc),
+        rows: Vec::new(alloc),
         registered: Vec::new(alloc),
         roots: Vec::new(alloc),
     };
+    let has_rows = random.below(3) > 0;
     let count = COUNT as u64;
     for record in 0..COUNT {
         for field in 0..2 {
@@ -347,6 +463,15 @@ fn drawn(rt: &impl Abort, alloc: Global, random: &mut Random) -> Plain {
             if random.below(6) == 0 {
                 push(rt, &mut plain.links, (record, field, target));
             }
+        }
+        let (key, value) = (random.below(count) as usize, random.below(count) as usize);
+        let kind = if random.below(2) == 0 {
+            LinkKind::Short
+        } else {
+            LinkKind::Long
+        };
+        if has_rows && random.below(2) == 0 {
+            push(rt, &mut plain.rows, (kind, record, 2, key, value));
         }
         let kind = match random.below(6) {
             0 => Kind::IgnoreSelf,
@@ -374,6 +499,10 @@ fn built(rt: &impl Abort, alloc: Global, plain: &Plain) -> Records {
     }
     for (record, field, to) in plain.links.iter() {
         carry_out(rt, &mut all, Step::Link(*record, *field, *to));
+    }
+    for (kind, record, field, key, value) in plain.rows.iter() {
+        carry_out(rt, &mut all, Step::Hide(*record, *field, *value));
+        carry_out(rt, &mut all, Step::Keyed(*kind, *record, *field, *key));
     }
     for (record, kind, data) in plain.registered.iter() {
         carry_out(rt, &mut all, Step::Register(*record, *kind, *data));
@@ -416,13 +545,34 @@ fn refers(plain: &Plain, found: Option<&[bool; COUNT]>, word: (usize, usize, usi
     }
 }
 
-/// What some records reach: as often as there are records, each word of what was reached.
+/// Whether a record was found, or is in the set.
+fn is_in(set: &[bool; COUNT], found: Option<&[bool; COUNT]>, record: usize) -> bool {
+    has(set, record) || found.is_some_and(|all| has(all, record))
+}
+
+/// Whether an ephemeron is one still once the dead short ones are removed.
+fn is_left(found: Option<&[bool; COUNT]>, kind: LinkKind, key: usize) -> bool {
+    match (kind, found) {
+        (LinkKind::Short, Some(all)) => has(all, key),
+        _ => true,
+    }
+}
+
+/// What some records reach, with what was found: as often as there are records, each word of what was reached, and each ephemeron whose key and record were.
 fn spread(plain: &Plain, found: Option<&[bool; COUNT]>, starts: [bool; COUNT]) -> [bool; COUNT] {
     let mut reached = starts;
     for _ in 0..COUNT {
         for word in plain.words.iter() {
             if has(&reached, word.0) && refers(plain, found, *word) {
                 set(&mut reached, word.2);
+            }
+        }
+        for (kind, record, _, key, value) in plain.rows.iter() {
+            if is_left(found, *kind, *key)
+                && is_in(&reached, found, *key)
+                && is_in(&reached, found, *record)
+            {
+                set(&mut reached, *value);
             }
         }
     }
@@ -452,15 +602,45 @@ fn counts(kind: Kind, record: usize, to: usize) -> bool {
     }
 }
 
-/// Whether a record reaches another by a first step that counts.
-fn holds(plain: &Plain, found: &[bool; COUNT], record: usize, kind: Kind, other: usize) -> bool {
-    let mut starts = [false; COUNT];
+/// Adds the first steps of a record that count.
+fn add_firsts(
+    plain: &Plain,
+    found: &[bool; COUNT],
+    record: usize,
+    kind: Kind,
+    starts: &mut [bool; COUNT],
+) {
     for word in plain.words.iter() {
         if word.0 == record && refers(plain, Some(found), *word) && counts(kind, record, word.2) {
-            set(&mut starts, word.2);
+            set(starts, word.2);
         }
     }
-    has(&spread(plain, Some(found), starts), other)
+}
+
+/// What a record reaches by first steps that count.
+fn held_by(plain: &Plain, found: &[bool; COUNT], record: usize, kind: Kind) -> [bool; COUNT] {
+    let mut starts = [false; COUNT];
+    add_firsts(plain, found, record, kind, &mut starts);
+    spread(plain, Some(found), starts)
+}
+
+/// Whether a record reaches another by a first step that counts.
+fn holds(plain: &Plain, found: &[bool; COUNT], record: usize, kind: Kind, other: usize) -> bool {
+    has(&held_by(plain, found, record, kind), other)
+}
+
+/// What the unreachable registered records reach together, by what counts toward a record of a kind.
+fn held_toward(plain: &Plain, found: &[bool; COUNT], kind: Kind) -> [bool; COUNT] {
+    let mut starts = [false; COUNT];
+    for (other, their, _) in plain.registered.iter() {
+        if !has(found, *other) {
+            add_firsts(plain, found, *other, *their, &mut starts);
+            if kind == Kind::Unreachable && *their != Kind::Unreachable {
+                set(&mut starts, *other);
+            }
+        }
+    }
+    spread(plain, Some(found), starts)
 }
 
 /// What a plain reading tells of a registered record, with root 0 in place of any.
@@ -471,11 +651,8 @@ fn read(plain: &Plain, found: &[bool; COUNT], record: usize, kind: Kind) -> Told
     if holds(plain, found, record, kind, record) {
         return Told::Ring;
     }
-    for (other, their, _) in plain.registered.iter() {
-        let by = counted(kind, *their);
-        if *other != record && !has(found, *other) && holds(plain, found, *other, by, record) {
-            return Told::Waits;
-        }
+    if has(&held_toward(plain, found, kind), record) {
+        return Told::Waits;
     }
     Told::Ready
 }
@@ -530,16 +707,54 @@ fn read_stuck(plain: &Plain, found: &[bool; COUNT]) -> [bool; COUNT] {
     left
 }
 
-/// Whether each record of a path refers to the next.
-fn is_path(plain: &Plain, found: Option<&[bool; COUNT]>, path: &[usize]) -> bool {
+/// Which records rings hold, by their first steps together.
+fn read_behind_rings(plain: &Plain, found: &[bool; COUNT]) -> [bool; COUNT] {
+    let mut starts = [false; COUNT];
+    for (record, kind, _) in plain.registered.iter() {
+        if !has(found, *record) && holds(plain, found, *record, *kind, *record) {
+            add_firsts(plain, found, *record, *kind, &mut starts);
+        }
+    }
+    let mut behind = spread(plain, Some(found), starts);
+    for (flag, reachable) in behind.iter_mut().zip(found.iter()) {
+        *flag = *flag && !*reachable;
+    }
+    behind
+}
+
+/// Whether a record refers to another, or another is the value of an ephemeron of which the record is the key or the holder. Both of these are held.
+fn is_step(
+    plain: &Plain,
+    found: Option<&[bool; COUNT]>,
+    held: &[bool; COUNT],
+    from: usize,
+    to: usize,
+) -> bool {
+    let mut words = plain.words.iter();
+    if words.any(|word| word.0 == from && word.2 == to && refers(plain, found, *word)) {
+        return true;
+    }
+    let mut rows = plain.rows.iter();
+    rows.any(|row| {
+        (row.1 == from || row.3 == from)
+            && row.4 == to
+            && is_left(found, row.0, row.3)
+            && is_in(held, found, row.1)
+            && is_in(held, found, row.3)
+    })
+}
+
+/// Whether a step leads from each record of a path to the next.
+fn is_path(
+    plain: &Plain,
+    found: Option<&[bool; COUNT]>,
+    held: &[bool; COUNT],
+    path: &[usize],
+) -> bool {
     let mut before = None;
     for record in path.iter() {
         if let Some(from) = before {
-            let mut steps = plain.words.iter();
-            if !steps.any(|word| word.0 == from
-                && word.2 == *record
-                && refers(plain, found, *word))
-            {
+            if !is_step(plain, found, held, from, *record) {
                 return false;
             }
         }
@@ -553,6 +768,7 @@ fn is_told(
     plain: &Plain,
     found: &[bool; COUNT],
     record: usize,
+    kind: Kind,
     told: Told,
     path: &[usize],
 ) -> bool {
@@ -561,17 +777,23 @@ fn is_told(
         Told::Found(RootOf::Host(index)) => {
             first == plain.roots.get(index).copied()
                 && last == Some(record)
-                && is_path(plain, None, path)
+                && is_path(plain, None, found, path)
         }
-        Told::Found(_) => last == Some(record) && is_path(plain, None, path),
-        Told::Ring => first == Some(record)
-            && last == Some(record)
-            && path.len() > 1
-            && is_path(plain, Some(found), path),
-        Told::Waits => first != Some(record)
-            && last == Some(record)
-            && path.len() > 1
-            && is_path(plain, Some(found), path),
+        Told::Found(_) => last == Some(record) && is_path(plain, None, found, path),
+        Told::Ring => {
+            let held = held_by(plain, found, record, kind);
+            first == Some(record)
+                && last == Some(record)
+                && path.len() > 1
+                && is_path(plain, Some(found), &held, path)
+        }
+        Told::Waits => {
+            let held = held_toward(plain, found, kind);
+            first != Some(record)
+                && last == Some(record)
+                && path.len() > 1
+                && is_path(plain, Some(found), &held, path)
+        }
         _ => path.is_empty(),
     }
 }
@@ -586,7 +808,7 @@ fn compare(rt: &impl Abort, alloc: Global, plain: &Plain) {
         let (told, path) = answer_of(rt, &all, *record);
         must_be(
             rt,
-            is_told(plain, &found, *record, told, path.as_slice()),
+            is_told(plain, &found, *record, *kind, told, path.as_slice()),
             true,
             "a true path",
         );
@@ -597,7 +819,11 @@ fn compare(rt: &impl Abort, alloc: Global, plain: &Plain) {
         must_be(rt, sort, want, "the plain reading");
         ready = ready.saturating_add(u64::from(want == Told::Ready));
     }
-    let stuck = read_stuck(plain, &found);
+    let stuck = if plain.rows.is_empty() {
+        read_stuck(plain, &found)
+    } else {
+        read_behind_rings(plain, &found)
+    };
     let mut want = Vec::new(alloc);
     for (record, _, _) in plain.registered.iter() {
         if has(&stuck, *record) {

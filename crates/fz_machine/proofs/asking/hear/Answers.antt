@@ -1,4 +1,4 @@
-use Rattle.std.proofs.Common.{◌∙◌, false, sym, ap}
+use Rattle.std.proofs.Common.{[], ◌∙◌, false, sym, ap}
 use Rattle.fz_machine.specs.Going.{going}
 use Rattle.fz_machine.specs.Steps.{Going, step}
 use Rattle.fz_machine.proofs.Kept.{none_left}
@@ -8,14 +8,14 @@ use Rattle.fz_machine.proofs.asking.hear.Goals as goal
 
 pub returns-in_default-clause-heard : goal.returns-in_default-clause-heard
 returns-in_default-clause-heard c =
-    let start = going c.args.finalizers.now c.args.walk.now in
+    let start = going c.args.finalizers.now c.args.walk.now [] in
     let none = none_left c.loop-yes.walk.left (sym c.first.ensures ∙ c.in_default.is) in
     let heard = c.loop-yes.invariant.heard in
     heard ∙ sym (steps_ended c.args.phase c.args.answers.now c.loop-yes.yes-index start (ap (λ (g : Going). g.left) (sym heard) ∙ none))
 
 pub loop-yes-preserved : goal.loop-yes-preserved
 loop-yes-preserved c =
-    let start = going c.args.finalizers.now c.args.walk.now in
+    let start = going c.args.finalizers.now c.args.walk.now [] in
     record {
       heard = c.step.ensures.stepped ∙ ap (step c.args.phase _) c.loop-yes.invariant.heard ∙ sym (steps_more c.args.phase c.args.answers.now c.loop-yes.yes-index false start c.loop-yes-test.true);
       room = c.step.ensures.room;

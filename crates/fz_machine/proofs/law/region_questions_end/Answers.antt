@@ -1,4 +1,4 @@
-use Rattle.fz_machine.proofs.Remained.{region_questions_end}
+use Rattle.fz_machine.proofs.Spent.{region_questions_end}
 use Rattle.fz_machine.proofs.law.region_questions_end.Goals as goal
 
 pub returns : goal.returns

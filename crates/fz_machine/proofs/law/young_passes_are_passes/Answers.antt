@@ -1,5 +1,4 @@
 use Rattle.fz_machine.proofs.Askable.{asks_young_rightly}
-use Rattle.fz_machine.proofs.Honest.{young_words_are_answers}
 use Rattle.fz_machine.proofs.Ran.{runs_young_pass, runs_young_plain_pass}
 use Rattle.fz_machine.proofs.law.young_passes_are_passes.Goals as goal
 
@@ -20,9 +19,3 @@ returns-clause-asked_young c = asks_young_rightly (Unit {0})
 
 pub returns-clause-asked_young_of_more : goal.returns-clause-asked_young_of_more
 returns-clause-asked_young_of_more c = asks_young_rightly ⊥
-
-pub returns-clause-words_young : goal.returns-clause-words_young
-returns-clause-words_young c = young_words_are_answers (Unit {0})
-
-pub returns-clause-words_young_of_more : goal.returns-clause-words_young_of_more
-returns-clause-words_young_of_more c = young_words_are_answers ⊥

@@ -1,10 +1,10 @@
-use Rattle.std.proofs.Common.{vec_capacity, ◌++◌, ◌∷◌, [], ◌∙◌, length, map, ap, refl, arith}
+use Rattle.std.proofs.Common.{vec_capacity, ◌++◌, ◌∷◌, [], ◌∙◌, length, map, ap, false, arith}
 use Rattle.fz_machine.specs.Items.{of_link}
-use Rattle.fz_machine.proofs.Listed.{none_listed, one_more, all_listed, may_put}
+use Rattle.fz_machine.proofs.Listed.{none_listed, one_more, all_listed, may_put, untold}
 use Rattle.fz_machine.proofs.listing.list_ephemerons.Goals as goal
 
 pub loop-word-init : goal.loop-word-init
-loop-word-init c = record { are = none_listed of_link c.args.items.now.items c.into_iter-word-iterator.result; grown = omega arith }
+loop-word-init c = record { are = none_listed (of_link false) c.args.items.now.items c.into_iter-word-iterator.result; grown = omega arith }
 
 pub put-requires : goal.put-requires
 put-requires c =
@@ -26,4 +26,4 @@ returns-clause-listed c =
     let es = c.iter_ephemerons-word-items.result in
     let given = c.into_iter-word-iterator.ensures.into_iter_gives in
     let all = all_listed _ _ _ _ _ _ c.loop-word.invariant.are c.in-None.ensures.steps.0 in
-    (map of_link es, (es, (c.iter_ephemerons-word-items.ensures.all, c.iter_ephemerons-word-items.ensures.once), refl), all ∙ ap (λ xs. c.args.items.now.items ++ map of_link xs) given)
+    (map (of_link false) es, (es, (c.iter_ephemerons-word-items.ensures.all, c.iter_ephemerons-word-items.ensures.once), untold es), all ∙ ap (λ xs. c.args.items.now.items ++ map (of_link false) xs) given)

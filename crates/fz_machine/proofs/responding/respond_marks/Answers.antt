@@ -1,9 +1,10 @@
 use Rattle.std.proofs.Common.{◌≡◌, ◌≢◌, ◌∙◌, ◌+◌, ◌*◌, ◌<◌, ◌≤◌, ◌^◌, ℕ, Bool, true, false, ap, sym, ⊎_elim, bit_or, arith}
 use Rattle.std.proofs.lemmas.Bool.{cases_eq}
 use Rattle.fz_model.specs.Bits.{has_bit}
+use Rattle.fz_machine.specs.Graph.{Graph, graph_of, is_told}
 use Rattle.fz_machine.proofs.Places.{set_here, set_other}
 use Rattle.fz_machine.proofs.responding.respond_marks.Goals as goal
-use Rattle.fz_machine.proofs.responding.respond_marks.Goals.{then-is_marked, else-is_marked}
+use Rattle.fz_machine.proofs.responding.respond_marks.Goals.{then-is_told, else-is_told}
 
 module _ (marked : ℕ → Bool) (marks place : ℕ) (done : (i : ℕ) → i < place → has_bit marks i ≡ marked i) (rest : (i : ℕ) → place ≤ i → has_bit marks i ≡ false) where
   -- one more place is done, whose object is marked or not
@@ -35,15 +36,16 @@ module _ (marked : ℕ → Bool) (marks place : ℕ) (done : (i : ℕ) → i < p
 
 pub loop-place-preserved : goal.loop-place-preserved
 loop-place-preserved g c =
-    let marked : ℕ → Bool = λ i. g.H.Host.marked c.args.host.now (c.args.region + 16 * i) in
+    let graph : Graph = graph_of (g.H.Host.objects c.args.host.now) (g.H.Host.marked c.args.host.now) in
+    let marked : ℕ → Bool = λ i. is_told g.H.Host.place c.args.ask graph (c.args.region + 16 * i) in
     let test = c.loop-place-test.true in
-    elim c.if-is_marked.branch [
-      | then-is_marked w ↦
-          let d = on marked c.loop-place.marks c.loop-place.place c.loop-place.invariant.done c.loop-place.invariant.rest c.if-is_marked.marks w.bit-marks.result w.marks-is w.bit-marks.ensures
-          (ap (g.H.Host.marked c.args.host.now) (sym c.object_at.ensures) ∙ sym c.is_marked.ensures ∙ w.if-is_marked.true) in
+    elim c.if-is_told.branch [
+      | then-is_told w ↦
+          let d = on marked c.loop-place.word c.loop-place.place c.loop-place.invariant.done c.loop-place.invariant.rest c.if-is_told.word w.bit-word.result w.word-is w.bit-word.ensures
+          (ap (is_told g.H.Host.place c.args.ask graph) (sym c.address_of.ensures) ∙ sym c.is_told.ensures ∙ w.if-is_told.true) in
           record { most = omega (arith, test); done = d.done_too; rest = d.rest_too }
-      | else-is_marked w ↦
-          let d = off marked c.loop-place.marks c.loop-place.place c.loop-place.invariant.done c.loop-place.invariant.rest c.if-is_marked.marks w.marks-is
-          (ap (g.H.Host.marked c.args.host.now) (sym c.object_at.ensures) ∙ sym c.is_marked.ensures ∙ w.if-is_marked.false) in
+      | else-is_told w ↦
+          let d = off marked c.loop-place.word c.loop-place.place c.loop-place.invariant.done c.loop-place.invariant.rest c.if-is_told.word w.word-is
+          (ap (is_told g.H.Host.place c.args.ask graph) (sym c.address_of.ensures) ∙ sym c.is_told.ensures ∙ w.if-is_told.false) in
           record { most = omega (arith, test); done = d.done_too; rest = d.rest_too }
     ]

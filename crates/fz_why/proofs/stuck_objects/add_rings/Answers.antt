@@ -9,12 +9,12 @@ use Rattle.fz_why.proofs.stuck_objects.add_rings.Goals as goal
 
 pub loop-each-init : goal.loop-each-init
 loop-each-init g c =
-    let R = ByCircle (g.H.Paths.place c.args.host.now) (g.H.Paths.objects c.args.host.now) c.args.finalizers.now.state (has c.args.found.now) in
+    let R = ByCircle (g.H.Paths.place c.args.host.now) (g.H.Paths.value c.args.host.now) (g.H.Paths.objects c.args.host.now) c.args.finalizers.now.state (has c.args.found.now) in
     record { added = adds_nothing (ByAny [] R) _ (any_none R); rest = refl }
 
 pub loop-each-preserved : goal.loop-each-preserved
 loop-each-preserved g c =
-    let R = ByCircle (g.H.Paths.place c.args.host.now) (g.H.Paths.objects c.args.host.now) c.args.finalizers.now.state (has c.args.found.now) in
+    let R = ByCircle (g.H.Paths.place c.args.host.now) (g.H.Paths.value c.args.host.now) (g.H.Paths.objects c.args.host.now) c.args.finalizers.now.state (has c.args.found.now) in
     let inv = c.loop-each.invariant in
     record {
       added = adds_on (ByAny (c.loop-each.yielded ++ c.in-Some.each ∷ []) R) inv.added c.in_ok-add_ring.ensures.added (any_more R c.loop-each.yielded c.in-Some.each);
@@ -25,11 +25,12 @@ pub returns : goal.returns
 returns g c = record {
   added =
       let place = g.H.Paths.place c.args.host.now in
+      let value = g.H.Paths.value c.args.host.now in
       let objects = g.H.Paths.objects c.args.host.now in
       let s = c.args.finalizers.now.state in
       let found = has c.args.found.now in
       let es = c.iter-each-items.result in
       let all : c.loop-each.yielded ≡ es = all_of c.loop-each.yielded _ es (c.loop-each.invariant.rest ∙ c.into_iter-each-iterator.ensures.into_iter_gives) c.in-None.ensures.steps.0 in
-      adds_as _ (subst (λ (ys : List (ℕ × Registration)). Adds (ByAny ys (ByCircle place objects s found)) c.args.trail.now c.loop-each.trail) all c.loop-each.invariant.added)
-      (circles_all place objects s found es c.iter-each-items.ensures.all);
+      adds_as _ (subst (λ (ys : List (ℕ × Registration)). Adds (ByAny ys (ByCircle place value objects s found)) c.args.trail.now c.loop-each.trail) all c.loop-each.invariant.added)
+      (circles_all place value objects s found es c.iter-each-items.ensures.all);
 }

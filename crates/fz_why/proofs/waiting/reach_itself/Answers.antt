@@ -14,5 +14,6 @@ returns g c = record {
       let pointers = g.H.Paths.pointers c.args.host.now in
       let object = c.args.object in
       let first = subst (λ es. Adds (λ (o : Origin) b. (o ≡ First object) × IsFirstBy objects (is_cut (g.H.Paths.link c.args.host.now) s (Some fs)) (pointers object) object c.args.kind b) es c.add_first_steps.new.trail) c.new-trail.ensures c.in_ok-add_first_steps.ensures.added in
-      ring_trail (g.H.Paths.place c.args.host.now) (g.H.Paths.link c.args.host.now) (g.met.H.Paths.are_links c.args.host.now) objects s fs c.requires pointers (g.met.H.Paths.are_pointers c.args.host.now) object c.args.kind _ _ first c.in_ok-spread.ensures.spread;
+      ring_trail (g.H.Paths.place c.args.host.now) (g.H.Paths.link c.args.host.now) (g.met.H.Paths.are_links c.args.host.now) (g.H.Paths.value c.args.host.now) (g.met.H.Paths.are_values c.args.host.now) objects s fs c.requires pointers
+      (g.met.H.Paths.are_pointers c.args.host.now) object c.args.kind _ _ first c.in_ok-spread.ensures.spread;
 }

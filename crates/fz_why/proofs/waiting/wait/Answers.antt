@@ -1,26 +1,35 @@
-use Rattle.fz_model.specs.Pass.{cleared}
-use Rattle.fz_pass.specs.Places.{placed}
-use Rattle.fz_why.specs.Trail.{has, IsByWait}
+use Rattle.std.proofs.Common.{Some}
+use Rattle.fz_why.specs.Trail.{either, has, IsByWait, IsRow}
+use Rattle.fz_why.specs.Why.{heap_judged, IsKeyJudged}
 use Rattle.fz_why.proofs.Reached.{ordered}
+use Rattle.fz_why.proofs.Stepping.{links_apart}
 use Rattle.fz_why.proofs.Held.{wait_begins, wait_told, wait_none}
 use Rattle.fz_why.proofs.waiting.wait.Goals as goal
 
 pub path_to-requires : goal.path_to-requires
 path_to-requires g c =
+    let place = g.H.Paths.place c.args.host.now in
+    let value = g.H.Paths.value c.args.host.now in
     let objects = g.H.Paths.objects c.args.host.now in
     let s = c.args.finalizers.now.state in
     let found = has c.args.found.now in
-    ordered (cleared (placed (g.H.Paths.place c.args.host.now) s.short) found objects) (IsByWait (g.H.Paths.place c.args.host.now) objects s found c.args.late c.args.object) _ c.in_ok-trail.ensures.reached (wait_begins (g.H.Paths.place c.args.host.now) objects s found c.args.late c.args.object)
+    let heap = heap_judged place value objects s found in
+    ordered heap (IsRow place value heap (IsKeyJudged place value objects s found)) (either (Some c.args.found.now) (Some c.args.own.now)) (IsByWait place value objects s found c.args.late c.args.object) _ c.in_ok-trail.ensures.reached
+    (wait_begins place value objects s found c.args.late c.args.object)
 
 pub returns-in-Some : goal.returns-in-Some
 returns-in-Some g c = record {
   path =
-      wait_told (g.H.Paths.place c.args.host.now) (g.H.Paths.objects c.args.host.now) c.args.finalizers.now.state (has c.args.found.now) c.args.object _ c.args.late c.in_ok-trail.ensures.reached c.in-Some._start c.in-Some.path.items
-      (rw c.in-Some.is at c.in_ok-told.ensures.path);
+      wait_told (g.H.Paths.place c.args.host.now) (g.H.Paths.value c.args.host.now) (g.H.Paths.objects c.args.host.now) c.args.finalizers.now.state c.args.found.now c.args.object c.args.registration c.requires.unfound c.args.own.now c.requires.own
+      c.args.late _ c.in_ok-trail.ensures.reached c.in-Some._start c.in-Some.path.items (rw c.in-Some.is at c.in_ok-told.ensures.path);
 }
 
 pub returns : goal.returns
 returns g c = record {
   path =
-      wait_none (g.H.Paths.place c.args.host.now) (g.H.Paths.objects c.args.host.now) c.args.finalizers.now.state (has c.args.found.now) c.args.object _ c.args.late c.in_ok-trail.ensures.reached (rw c.in-None.is at c.in_ok-told.ensures.path);
+      let objects = g.H.Paths.objects c.args.host.now in
+      let s = c.args.finalizers.now.state in
+      wait_none (g.H.Paths.place c.args.host.now) (g.H.Paths.value c.args.host.now) objects s c.args.found.now c.args.object c.args.registration c.requires.unfound c.args.own.now c.requires.own
+      (links_apart (g.H.Paths.place c.args.host.now) (g.H.Paths.link c.args.host.now) (g.met.H.Paths.are_links c.args.host.now) objects c.args.found.now s.short c.requires.found.sound.short)
+      (g.met.H.Paths.are_values c.args.host.now) c.requires.found c.requires.alone c.args.late c.requires.late _ c.in_ok-trail.ensures.reached (rw c.in-None.is at c.in_ok-told.ensures.path);
 }

@@ -1,4 +1,4 @@
-use Rattle.std.proofs.Common.{rules, ◌≡◌, ◌∙◌, ℕ, Option, Some, None, length, refl, sym, subst, inl}
+use Rattle.std.proofs.Common.{rules, ◌≡◌, ◌∙◌, Option, Some, None, length, refl, sym, subst, inl}
 use Rattle.fz_machine.specs.Machines.{Machine}
 use Rattle.fz_c.specs.MachineWhy.{AreStuckBy, AsksThrough, ListsStuck}
 use Rattle.fz_c.proofs.machine.stuck.list.Goals as goal

@@ -1,17 +1,11 @@
-use Rattle.std.proofs.Common.{◌∙◌, length, take, ap}
 use Rattle.fz_finalizers.specs.Follows.{TakeFinished}
-use Rattle.fz_machine.specs.Machines.{Machine}
-use Rattle.fz_machine.specs.Machines as machines
-use Rattle.fz_machine.specs.Walks.{Walk}
-use Rattle.fz_machine.proofs.Worked.{taken_in_order, taken_walk}
+use Rattle.fz_machine.specs.Machines.{TakesFinished}
+use Rattle.fz_machine.proofs.Worked.{taken_in_order}
 use Rattle.fz_machine.proofs.machine.Machine.take_finished.Goals as goal
 
 pub invariant_of-self : goal.invariant_of-self
-invariant_of-self c =
-    taken_in_order c.self.inside.walk c.self.inside.regions c.self.inside.finalizers.state c.take_finished.new.self.state TakeFinished machines.TakesFinished c.self.inside.phase c.self.inside.asked c.take_finished.result c.take_finished.ensures c.self.invariant
-
-pub returns-clause-keeps : goal.returns-clause-keeps
-returns-clause-keeps c =
-    ap (λ (w : Walk). record { finalizers = c.take_finished.new.self; walk = w; phase = c.self.inside.phase; asked = c.self.inside.asked; before = c.self.inside.before; from = c.self.inside.from; regions = take c.self.inside.regions.asked c.self.inside.regions.left; by_regions = c.self.inside.by_regions; noted = c.self.inside.regions.complete; tabled = length c.self.inside.regions.order; remaining = length c.self.inside.regions.left })
-    (taken_walk c.self.inside.walk c.self.inside.regions c.self.inside.finalizers.state c.take_finished.new.self.state TakeFinished machines.TakesFinished c.take_finished.result c.take_finished.ensures)
-    ∙ ap (λ (m : Machine). record m { finalizers = c.take_finished.new.self }) c.self.view_is
+invariant_of-self c = (
+  taken_in_order c.self.inside.walk c.self.inside.tables.items c.self.inside.phase c.self.inside.finalizers.state c.take_finished.new.self.state TakeFinished TakesFinished c.take_finished.result c.take_finished.ensures c.self.invariant.0,
+  c.self.invariant.1,
+  c.self.invariant.2,
+)

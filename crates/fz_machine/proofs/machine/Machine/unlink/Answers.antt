@@ -3,7 +3,8 @@ use Rattle.fz_finalizers.specs.States.{State}
 use Rattle.fz_machine.specs.Going.{HasRoom}
 use Rattle.fz_machine.specs.Causes.{first_of}
 use Rattle.fz_machine.specs.Machines.{Machine}
-use Rattle.fz_machine.proofs.Remaining.{calm, idle_rooms, unlinked_fewer, unopened}
+use Rattle.fz_machine.proofs.Less.{IsLess, unlinked_less}
+use Rattle.fz_machine.proofs.Remaining.{calm, idle_rooms, unopened}
 use Rattle.fz_machine.proofs.Rooms.{unlinked, unlinked_keyed, rooms_same}
 use Rattle.fz_machine.proofs.machine.Machine.unlink.Goals as goal
 
@@ -12,8 +13,8 @@ invariant_of-self c =
     let s = c.self.inside.finalizers.state in
     let walk = c.self.inside.walk in
     let idle = unopened c.self.inside.phase [] (ap (λ (m : Machine). first_of m.phase []) c.self.view_is ∙ c.in_ok-check.ensures) in
-    let rooms = idle_rooms s walk c.self.inside.regions c.self.inside.phase c.self.inside.asked c.self.invariant idle in
+    let rooms = idle_rooms s walk c.self.inside.tables.items c.self.inside.phase c.self.inside.asked c.self.invariant idle in
     let room = subst (λ (t : State). HasRoom t c.self.inside.walk.room) (sym c.unlink.ensures.follows) (unlinked s c.self.inside.walk.room rooms.main c.args.kind c.args.word) in
-    calm s c.self.inside.walk c.self.inside.regions c.self.inside.phase c.self.inside.asked c.self.invariant idle
+    calm s c.self.inside.walk c.self.inside.tables.items c.self.inside.phase c.self.inside.asked c.self.invariant idle
     c.unlink.new.self.state walk (rooms_same s walk rooms c.unlink.new.self.state room (unlinked_keyed s c.args.kind c.args.word c.unlink.new.self.state c.unlink.ensures.follows))
-    (unlinked_fewer s c.args.kind c.args.word c.unlink.new.self.state c.unlink.ensures.follows)
+    (subst (IsLess s) (sym c.unlink.ensures.follows) (unlinked_less s c.args.kind c.args.word))

@@ -1,11 +1,10 @@
 use Rattle.std.proofs.Common.{[], sym, subst, ap, ◌∙◌}
-use Rattle.std.proofs.Common.{IsTrue}
-use Rattle.std.specs.FinMap.{contains_key}
 use Rattle.fz_finalizers.specs.States.{State}
 use Rattle.fz_machine.specs.Going.{HasRoom}
 use Rattle.fz_machine.specs.Causes.{first_of}
 use Rattle.fz_machine.specs.Machines.{Machine}
-use Rattle.fz_machine.proofs.Remaining.{calm, idle_rooms, removed_fewer, unopened}
+use Rattle.fz_machine.proofs.Less.{IsLess, unregistered_less}
+use Rattle.fz_machine.proofs.Remaining.{calm, idle_rooms, unopened}
 use Rattle.fz_machine.proofs.Rooms.{removed, rooms_same}
 use Rattle.fz_machine.proofs.machine.Machine.unregister.Goals as goal
 
@@ -14,8 +13,8 @@ invariant_of-self c =
     let s = c.self.inside.finalizers.state in
     let walk = c.self.inside.walk in
     let idle = unopened c.self.inside.phase [] (ap (λ (m : Machine). first_of m.phase []) c.self.view_is ∙ c.in_ok-check.ensures) in
-    let rooms = idle_rooms s walk c.self.inside.regions c.self.inside.phase c.self.inside.asked c.self.invariant idle in
+    let rooms = idle_rooms s walk c.self.inside.tables.items c.self.inside.phase c.self.inside.asked c.self.invariant idle in
     let room = subst (λ (t : State). HasRoom t c.self.inside.walk.room) (sym c.unregister.ensures.follows) (removed s c.self.inside.walk.room rooms.main c.args.object) in
-    calm s c.self.inside.walk c.self.inside.regions c.self.inside.phase c.self.inside.asked c.self.invariant idle
+    calm s c.self.inside.walk c.self.inside.tables.items c.self.inside.phase c.self.inside.asked c.self.invariant idle
     c.unregister.new.self.state walk (rooms_same s walk rooms c.unregister.new.self.state room (ap (λ (t : State). t.ephemerons) c.unregister.ensures.follows))
-    (λ object there. removed_fewer s.registrations c.args.object object (subst (λ (t : State). IsTrue (contains_key t.registrations object)) c.unregister.ensures.follows there))
+    (subst (IsLess s) (sym c.unregister.ensures.follows) (unregistered_less s c.args.object))

@@ -1,7 +1,8 @@
-use Rattle.std.proofs.Common.{All, take, ℕ, subst, ◌≡◌, ◌∙◌, ◌<◌, length, sym, arith}
+use Rattle.std.proofs.Common.{All, take, ℕ, subst, ◌≡◌, ◌∙◌, ◌<◌, ◌+◌, length, sym, ap, arith}
 use Rattle.std.proofs.lemmas.List.{length-set}
+use Rattle.std.specs.Map.{keys_of}
 use Rattle.fz_machine.specs.Regions.{Regions, place_in}
-use Rattle.fz_machine.proofs.Noting.{each_begins, one_written}
+use Rattle.fz_machine.proofs.Noting.{each_begins, key_left, length_left, one_written}
 use Rattle.fz_machine.proofs.regions.Regions.ask.Goals as goal
 
 pub loop-count-preserved : goal.loop-count-preserved
@@ -10,12 +11,15 @@ loop-count-preserved c =
     let less = c.if-count-self.true in
     let long = c.loop-count.invariant.long in
     let room : c.loop-count.count < length c.loop-count.about = omega (arith, lt, long) in
+    let within : c.self.inside.heard + c.loop-count.count < c.self.inside.end = omega (arith, less) in
     record {
       few = omega (arith, lt);
       within = omega (arith, less);
       long = length-set c.loop-count.about c.loop-count.count c.in-Some.region.now ∙ long;
-      about = one_written c.self.inside.noted.entries c.self.inside.left c.loop-count.count c.loop-count.about (c.in-Some.region.now, c.in-Some.field-0-1.now) less c.self.invariant.0 room c.loop-count.invariant.about (sym c.in-Some.ensures.entry);
+      about = one_written _ c.loop-count.count c.loop-count.about c.in-Some.region.now room c.loop-count.invariant.about
+          (key_left c.self.inside.noted.entries c.self.inside.heard c.self.inside.end c.loop-count.count (c.in-Some.region.now, c.in-Some.field-0-1.now) within (sym c.in-Some.ensures.entry));
     }
 
 pub returns-clause-begin : goal.returns-clause-begin
-returns-clause-begin c = subst (λ (r : Regions). All (λ (e : ℕ × ℕ). place_in e.0 ≡ 0) (take c.loop-count.count r.left)) c.self.view_is (each_begins c.self.inside.noted.entries c.self.inside.left c.loop-count.count c.self.invariant.1)
+returns-clause-begin c =
+    subst (λ (r : Regions). All (λ region. place_in region ≡ 0) (take c.loop-count.count r.left)) c.self.view_is (each_begins c.self.inside.noted.entries c.loop-count.count c.self.inside.heard c.self.inside.end c.self.invariant.2)

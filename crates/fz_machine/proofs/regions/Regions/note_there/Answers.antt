@@ -1,50 +1,43 @@
-use Rattle.std.proofs.Common.{◌≡◌, ◌∙◌, ℕ, nat_eq, cond, is_some, true, Some, OnOk, ap, sym, subst, refl, bit_or}
-use Rattle.std.specs.Map.{lookup}
-use Rattle.std.specs.Option.{option_map_or}
-use Rattle.fz_model.specs.Bits.{has_bit}
-use Rattle.fz_machine.specs.Regions.{Regions, IsNoted, place_in}
-use Rattle.fz_machine.proofs.Noting.{noted_after, noted_still, now_noted, still_none}
-use Rattle.fz_machine.proofs.Places.{set_here}
+use Rattle.std.proofs.Common.{◌≡◌, ◌∙◌, ℕ, Bool, false, is_some, not, Option, None, OnOk, nat_eq, map, take, ap, sym, subst, refl}
+use Rattle.std.proofs.lemmas.Map.Made.{is_some-lookup}
+use Rattle.std.specs.List.{list_any}
+use Rattle.std.specs.Map.{keys_of, lookup}
+use Rattle.fz_machine.specs.Regions.{Regions, IsNoted, placed, region_of, worded}
+use Rattle.fz_machine.specs.declared.regions.Noted.{Noted}
+use Rattle.fz_machine.proofs.Noting.{added, added_kept, added_noted, added_same, viewed, viewed_by}
 use Rattle.fz_machine.proofs.regions.Regions.note_there.Goals as goal
 use Rattle.fz_machine.proofs.regions.Regions.note_there.Goals.{in-Ok, in-Err}
 
-module _ (c : goal.After-self-in-Some-1) where
-  abbrev with : ℕ
-  with = bit_or c.in-Some.bits.now c.bit-place.result
+module _ (c : goal.Joined-insert) where
+  -- the table is the same, but for bits that aren't set
+  view : viewed c.self.inside.noted.entries c.self.inside.heard c.self.inside.end c.self.inside.asked c.self.inside.complete ≡ record c.args.self.now { order = c.place.new.self.order }
+  view = c.self.view_is ∙ c.place.ensures.same
 
-  bits_are : c.in-Some.bits.now ≡ option_map_or (λ (bits : ℕ). bits) (lookup (nat_eq c.region_of-region.result) c.args.self.now.order) 0
-  bits_are =
-      ap (λ o. option_map_or (λ (bits : ℕ). bits) o 0) c.in-Some.ensures.value
-      ∙ ap (λ (r : Regions). option_map_or (λ (bits : ℕ). bits) (lookup (nat_eq c.region_of-region.result) r.order) 0) c.self.view_is
+  absent : is_some (lookup (nat_eq (region_of c.args.n)) c.place.new.self.order) ≡ false
+  absent =
+      is_some-lookup (nat_eq (region_of c.args.n)) c.place.new.self.order ∙ ap (list_any (nat_eq (region_of c.args.n))) c.place.ensures.keys ∙ sym (is_some-lookup (nat_eq (region_of c.args.n)) c.args.self.now.order)
+      ∙ sym c.place.ensures.there ∙ sym c.is_some.ensures ∙ c.if-is_some.false
 
-  updated : (q : ℕ) → lookup (nat_eq q) (c.get_mut.follows.lender with).entries ≡ cond (nat_eq c.region_of-region.result q) (Some with) (lookup (nat_eq q) c.args.self.now.order)
-  updated q =
-      ((c.get_mut.follows.holds with).3 (ap is_some (sym c.in-Some.ensures.value))).0 q
-      ∙ ap (λ (r : Regions). cond (nat_eq c.region_of-region.result q) (Some with) (lookup (nat_eq q) r.order)) c.self.view_is
+  abbrev v : Noted
+  v = record { places = c.bit.result; told = 0 }
 
-pub returns-in-Some-clause-same : goal.returns-in-Some-clause-same
-returns-in-Some-clause-same c = (
-  still_none c.self.inside.noted.entries (c.get_mut.follows.lender (with c)).entries c.self.inside.left c.self.invariant.0 (ap (λ (r : Regions). r.left) c.self.view_is ∙ c.requires.idle),
-  ap (λ (r : Regions). r.asked) c.self.view_is,
-  ap (λ (r : Regions). r.complete) c.self.view_is,
-)
-
-pub returns-in-Some-clause-noted : goal.returns-in-Some-clause-noted
-returns-in-Some-clause-noted c =
-    noted_after c.args.self.now.order c.args.object c.region_of-region.result c.place_in.result c.bit-place.result c.in-Some.bits.now c.region_of-region.ensures c.place_in.ensures c.bit-place.ensures (bits_are c)
-    (c.get_mut.follows.lender (with c)).entries (updated c)
-
-pub returns-in-Some-clause-kept : goal.returns-in-Some-clause-kept
-returns-in-Some-clause-kept c =
-    noted_still c.args.self.now.order c.args.object c.region_of-region.result c.place_in.result c.bit-place.result c.in-Some.bits.now c.region_of-region.ensures c.place_in.ensures c.bit-place.ensures (bits_are c)
-    (c.get_mut.follows.lender (with c)).entries (updated c)
+pub returns-clause-same : goal.returns-clause-same
+returns-clause-same c = elim c.match-insert.branch [
+  | in-Ok w ↦ added_same c.self.inside.noted.entries (record c.args.self.now { order = c.place.new.self.order }) c.self.inside.heard c.self.inside.end c.self.inside.asked c.self.inside.complete (view c) (c.region_of.result, v c) c.insert.new.self.entries c.self.invariant.0 c.self.invariant.1
+      (added c.self.inside.noted.entries (record c.args.self.now { order = c.place.new.self.order }) c.self.inside.heard c.self.inside.end c.self.inside.asked c.self.inside.complete (view c) c.args.n c.region_of.result c.region_of.ensures (absent c) (v c) c.insert.new.self.entries c.self.inside.noted refl w.in-Ok.ensures.entries)
+  | in-Err w ↦ viewed_by c.self.inside.noted.entries c.insert.new.self.entries (record c.args.self.now { order = c.place.new.self.order }) c.self.inside.heard c.self.inside.end c.self.inside.asked c.self.inside.complete (view c) (ap keys_of w.in-Err.ensures.err) (ap (λ xs. map worded (take c.self.inside.heard xs)) w.in-Err.ensures.err)
+]
 
 pub returns-clause-noted : goal.returns-clause-noted
-returns-clause-noted c =
-    let on : has_bit c.bit-place.result (place_in c.args.object) ≡ true =
-    ap (λ k. has_bit c.bit-place.result k) (sym c.place_in.ensures) ∙ ap (λ k. has_bit k c.place_in.result) c.bit-place.ensures ∙ set_here 0 c.place_in.result in
-    elim c.match-insert.branch [
-      | in-Ok w ↦ subst (λ r. OnOk r (IsNoted c.insert.new.self.entries c.args.object)) (sym w.result-is)
-          (now_noted _ c.insert.new.self.entries c.region_of-region.result (Some c.bit-place.result) w.in-Ok.ensures.updates.0 c.bit-place.result c.args.object refl (sym c.region_of-region.ensures) on)
-      | in-Err w ↦ subst (λ r. OnOk r (IsNoted c.insert.new.self.entries c.args.object)) (sym w.result-is) tt
-    ]
+returns-clause-noted c = elim c.match-insert.branch [
+  | in-Ok w ↦ subst (λ r. OnOk r (IsNoted (map placed c.insert.new.self.entries) c.args.n)) (sym w.result-is)
+      (added_noted c.self.inside.noted.entries (record c.args.self.now { order = c.place.new.self.order }) c.self.inside.heard c.self.inside.end c.self.inside.asked c.self.inside.complete (view c) c.args.n c.region_of.result c.region_of.ensures (absent c) (v c) c.insert.new.self.entries w.in-Ok.ensures.updates.0 c.place_in.result c.bit.result c.place_in.ensures c.bit.ensures refl)
+  | in-Err w ↦ subst (λ r. OnOk r (IsNoted (map placed c.insert.new.self.entries) c.args.n)) (sym w.result-is) tt
+]
+
+pub returns-clause-kept : goal.returns-clause-kept
+returns-clause-kept c = elim c.match-insert.branch [
+  | in-Ok w ↦ λ other noted.
+      added_kept c.self.inside.noted.entries (record c.args.self.now { order = c.place.new.self.order }) c.self.inside.heard c.self.inside.end c.self.inside.asked c.self.inside.complete (view c) c.args.n c.region_of.result c.region_of.ensures (absent c) (v c) c.insert.new.self.entries w.in-Ok.ensures.updates.0 other (c.place.ensures.kept other noted)
+  | in-Err w ↦ λ other noted. subst (λ xs. IsNoted (map placed xs) other) (sym w.in-Err.ensures.err) (subst (λ (r : Regions). IsNoted r.order other) (sym c.self.view_is) (c.place.ensures.kept other noted))
+]
