@@ -22,7 +22,8 @@ PAIRS = re.compile(r'(?:wants: )?(?:tried: )?(?:law: )?(?:(?:file: )?old: new: )
 MISSING = re.compile(r'has no field|is not in scope|has no `|was not admitted')
 # Goals that any contract has: no clause speaks of them.
 SAFETY = re.compile(r'(?:overflow|nonzero)_\w+|(?:slice_|offset_)?bounds\b|index_mut\b')
-LAW = re.compile(r'^pub fn (\w+)\(\)\n((?:(?:    .*)?\n)+)\{\}$', re.M)
+# A law begins with its attributes: the prover tells of a clause that its tactic doesn't prove at the first of them.
+LAW = re.compile(r'^(?:#\[.*\]\n)*pub fn (\w+)\(\)\n((?:(?:    .*)?\n)+)\{\}$', re.M)
 FUNCTION = re.compile(r'( *)(?:pub(?:\([a-z]+\))? )?(?:const )?(?:extern "C" )?fn (\w+)')
 IMPL = re.compile(r'impl(?:<(.*?)>)? (?:(\w+)(?:<.*?>)? for )?(\w+)(?:<([\w, ]+)>)?')
 
