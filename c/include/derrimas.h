@@ -269,8 +269,8 @@ derrimas_code derrimas_load(derrimas_world *world, derrimas_slot slot, uint64_t 
 derrimas_code derrimas_store(derrimas_world *world, derrimas_slot slot, uint64_t offset, derrimas_slot from)
     DERRIMAS_NONNULL(1);
 
-/* Writes a number, or an address, into the heap at the slot's word plus the offset: by way of the last slot of the
- * slot's frame, or the one before it, whose word is as it was afterwards.
+/* Writes a number, or an address, into the heap at the slot's word plus the offset. It uses the last slot of the slot's
+ * frame, or the one before it, and restores its word.
  * Refused: DERRIMAS_NO_WORLD, DERRIMAS_BAD_SLOT, DERRIMAS_NOT_POINTER, DERRIMAS_OUTSIDE_OBJECT. */
 derrimas_code derrimas_write(derrimas_world *world, derrimas_slot slot, uint64_t offset, uint64_t value) DERRIMAS_NONNULL(1);
 
@@ -454,7 +454,7 @@ derrimas_code derrimas_seat_done(derrimas_seat *seat) DERRIMAS_NONNULL(1);
  * as one that isn't finished, until derrimas_finish. Does nothing if the seat isn't open. */
 void derrimas_seat_destroy(derrimas_seat *seat) DERRIMAS_NONNULL(1);
 
-/* ---- what a world shows; nothing changes by it
+/* ---- what a world shows; these calls change nothing
  *
  * A walk asks for the first at 0 or after it, then for the first after the one that came:
  *

@@ -42,15 +42,15 @@ const char *derrimas_version(void);
 /* ---- links */
 
 /* When a pass clears the word of a link. SHORT: when the target is unreachable, before its finalizer is queued, so
- * nobody finds an object by it that is being finalized. LONG: when no finalizer retains the target either, so the word
- * is valid as long as the target exists. GC_general_register_disappearing_link and GC_register_long_link. */
+ * nobody finds through the link an object that is being finalized (GC_general_register_disappearing_link). LONG: when
+ * no finalizer retains the target either, so the word is valid as long as the target exists (GC_register_long_link). */
 typedef enum derrimas_links { DERRIMAS_SHORT = 0, DERRIMAS_LONG = 1 } derrimas_links;
 
 /* The result of a call about a link. The numbers are no codes; DERRIMAS_GC_ANSWER maps them to those of gc.h:
  * GC_SUCCESS, GC_DUPLICATE and GC_NOT_FOUND. */
 typedef enum derrimas_link_answer {
     DERRIMAS_LINKED = 128,         /* the link was made, or moved */
-    DERRIMAS_LINK_DUPLICATE = 129, /* a link of this kind stood at the word */
+    DERRIMAS_LINK_DUPLICATE = 129, /* there was a link of this kind at the word */
     DERRIMAS_LINK_NOT_FOUND = 130  /* there was no link to move */
 } derrimas_link_answer;
 
@@ -58,9 +58,9 @@ typedef enum derrimas_link_answer {
 
 /* ---- memory */
 
-/* An allocator of the host's: as malloc, realloc and free, each with `data` before its arguments. They are called by the
- * thread whose call takes or frees memory, within it. They make no call on the same handle, and return. `reallocate` and
- * `release` are given what `allocate` or `reallocate` returned for this handle, or NULL. */
+/* An allocator of the host's: functions like malloc, realloc and free, each with `data` before its arguments. They are
+ * called by the thread whose call takes or frees memory, within that call. They make no call on the same handle, and
+ * return. `reallocate` and `release` get what `allocate` or `reallocate` returned for this handle, or NULL. */
 typedef struct derrimas_allocator {
     void *(*allocate)(void *data, size_t size);
     void *(*reallocate)(void *data, void *memory, size_t size);

@@ -12,7 +12,7 @@
  *
  * The host has the heap. It marks what its roots reach, and what derrimas_finalizers_roots yields. Then it makes a pass,
  * in which it is asked questions: is this object marked, mark what it reaches, write zero to this word. What isn't marked
- * at the end of the pass may be reclaimed. The host never marks through the word of an ephemeron, but when it is asked to.
+ * at the end of the pass may be reclaimed. The host marks through the word of an ephemeron only when it is asked to.
  *
  * A call that can be refused returns a derrimas_finalizers_code. A refused call changes nothing, and leaves the places for
  * its results as they were. If several causes apply, it returns the first in the order of the call's comment.
@@ -35,17 +35,19 @@
  *   marked, and a new object of the same number would inherit them. A pass that ends leaves none of these of an object that
  *   it left unmarked.
  *
- * Only derrimas_finalizers_open, .._reserve, .._shrink, .._register, .._link, .._ephemeron, .._add_cleanup, .._why,
- * .._stuck and, with the option `live`, .._move_link allocate, by the handle's allocator; only these and .._destroy free.
- * All other calls may be made while other threads are stopped at any place. .._reserve allocates beforehand, except for
- * ephemerons and cleanups. A registration
- * that replaces another takes no room, even if its kind differs. Each new registration and each cleanup takes room for
- * its entry, and each ephemeron for a pass, so that a pass, a take and a move never need memory; so a cleanup uses up the
- * room that was reserved for one registration. If the list that a pass processes has no room left, .._register, .._link,
- * .._ephemeron and .._add_cleanup enlarge it, even if they replace something or are refused. With the options `marks` and
- * `live` .._register, .._link, .._move_link and .._add_cleanup may also allocate for a region, even if room is reserved; if
- * that fails the call is accepted nevertheless, and later passes ask about each object or word of this sort by itself,
- * until .._shrink finds memory for the regions.
+ * Only derrimas_finalizers_open, .._reserve, .._shrink, .._register, .._link, .._ephemeron, .._add_cleanup, .._why, .._stuck
+ * and, with the option `live`, .._move_link allocate, by the handle's allocator; only these and .._destroy free. All other
+ * calls may be made while other threads are stopped at any place.
+ *
+ * .._reserve makes room for registrations and links beforehand, but not for ephemerons, cleanups and regions. A registration
+ * that replaces another takes no room, even if its kind differs. Each new registration and each cleanup takes room for its
+ * entry, and each ephemeron takes room for a pass, so that a pass, a take and a move never need memory. A cleanup uses up
+ * the room that was reserved for one registration. If the list that a pass processes has no room left, .._register, .._link,
+ * .._ephemeron and .._add_cleanup enlarge it, even if they replace something or are refused.
+ *
+ * With the options `marks` and `live` .._register, .._link, .._move_link and .._add_cleanup may also allocate for a region,
+ * even if room is reserved. If that fails the call is accepted nevertheless. Later passes then ask about each object or word
+ * of this sort by itself, until .._shrink finds memory for the regions.
  *
  * A call uses at most 16 KB of the stack, besides what the host's functions use.
  *
@@ -92,13 +94,13 @@ typedef enum derrimas_finalizers_code {
 typedef enum derrimas_finalizers_kind {
     DERRIMAS_FINALIZERS_NORMAL = 0,      /* no unreachable registered object reaches it, not even itself */
     DERRIMAS_FINALIZERS_IGNORE_SELF = 1, /* the same, but words of the object that point to itself don't count */
-    DERRIMAS_FINALIZERS_NO_ORDER = 2,    /* the object counts as one without references; others that reach it come first */
+    DERRIMAS_FINALIZERS_NO_ORDER = 2,    /* the object's own references don't count; others that reach it come first */
     DERRIMAS_FINALIZERS_UNREACHABLE = 3  /* as NORMAL, but the references of NO_ORDER objects count too */
 } derrimas_finalizers_kind;
 
-/* The kinds of links and the answers about them, which are those of derrimas_common.h, by names of this header. An ephemeron
- * of a kind is cleared when a link of this kind to its key is. A cleanup is due when a link of this kind to its object is
- * cleared. */
+/* The kinds of links and the answers about them, which are those of derrimas_common.h, under names of this header. An
+ * ephemeron of a kind is cleared when a link of this kind to its key would be. A cleanup is due when a link of this kind to
+ * its object would be cleared. */
 typedef derrimas_links derrimas_finalizers_link_kind;
 typedef derrimas_links derrimas_finalizers_when;
 typedef derrimas_link_answer derrimas_finalizers_linked;
@@ -139,8 +141,9 @@ typedef struct derrimas_trace {
     void *data;
 } derrimas_trace;
 
-/* The number of the next registration or cleanup, for derrimas_finalizers_next_number. For derrimas_finalizers_dump how many
- * passes there have been, and in before[n] that number as it was before the pass (n + 1) * 2^thinned. */
+/* `next` is the number of the next registration or cleanup, for derrimas_finalizers_next_number. The other fields are for
+ * derrimas_finalizers_dump: `passes` is how many passes there have been, and before[n] is `next` as it was before the pass
+ * (n + 1) * 2^thinned. */
 typedef struct derrimas_finalizers_ages {
     uint64_t next, passes, thinned, before[8];
 } derrimas_finalizers_ages;
@@ -219,15 +222,19 @@ typedef enum derrimas_ask {
 } derrimas_ask;
 
 /* A question about `count` objects, words or regions, 1 to DERRIMAS_FINALIZERS_BATCH, to be answered or carried out one
- * after another; the places after them are undefined. For IS_MARKED, HOLDER_IS_MARKED and MARK_VALUE bit i of the answers,
- * counted from the lowest, is the answer about what[i]. To say 1 of MARK_VALUE is always right; 0 says that all was marked
- * before. For the others the answers are ignored. MARKS and LIVE are answered in `marks`, which nothing else reads or writes.
- * what[j] is where a region begins, which has 64 places, 16 apart. For MARKS bit i of marks[j] says whether the object that
- * begins at what[j] + 16 * i is marked. If none begins at a place, its bit may have any value. For a region whose memory is
- * freed give 0. For LIVE bit i of marks[j] is what HOLDER_IS_MARKED would answer about the word with the number
- * what[j] + 16 * i: so it is 1 if no object has the word. If no link has a word at a place, its bit may have any value. A
- * number off the multiples of 16 is in a region that begins off them too, so what[j] need be no object, no word and no
- * multiple of 16, and may be 0. */
+ * after another; the places after them are undefined.
+ * - IS_MARKED, HOLDER_IS_MARKED, MARK_VALUE: bit i of the answers, counted from the lowest, is the answer about what[i]. For
+ *   MARK_VALUE 1 is always right; 0 says that everything was marked before.
+ * - MARKS: what[j] is where a region begins, which has 64 places, 16 apart. Bit i of marks[j] says whether the object that
+ *   begins at what[j] + 16 * i is marked. If none begins there, the bit may have any value. For a region whose memory is
+ *   freed give 0.
+ * - LIVE: what[j] is where such a region begins. Bit i of marks[j] is what HOLDER_IS_MARKED would answer about the word with
+ *   the number what[j] + 16 * i: so it is 1 if no object has the word. If no link has a word there, the bit may have any
+ *   value.
+ * - All others are commands, whose answers are ignored.
+ *
+ * Nothing else reads or writes `marks`. A number that is no multiple of 16 is in a region that begins at no multiple of 16.
+ * So what[j] of a region need be no object, no word and no multiple of 16, and may be 0. */
 typedef struct derrimas_question {
     uint64_t what[DERRIMAS_FINALIZERS_BATCH];
     uint64_t count;
@@ -248,18 +255,18 @@ DERRIMAS_CHECKED derrimas_finalizers_code derrimas_finalizers_open(derrimas_fina
 /* Frees all that the handle has, by its allocator, and leaves it as {0}. Does nothing if it isn't open. */
 void derrimas_finalizers_destroy(derrimas_finalizers *finalizers) DERRIMAS_NONNULL(1);
 
-/* Makes room for the given numbers of further registrations and links: until the room is used up no calls but
- * .._ephemeron and .._add_cleanup take memory, but for new regions. It takes memory itself, and time proportional to the
- * room.
+/* Makes room for the given numbers of further registrations and links. Until that room is used up, or .._shrink is called,
+ * .._register and .._link take no memory, except for new regions. .._ephemeron, .._add_cleanup, .._why and .._stuck take
+ * memory nevertheless. It takes memory itself, and time proportional to the room.
  * Refused: NOT_OPEN, PASS_OPEN, NO_MEMORY. */
 DERRIMAS_CHECKED derrimas_finalizers_code derrimas_finalizers_reserve(derrimas_finalizers *finalizers,
                                                                       uint64_t registrations, uint64_t shorts, uint64_t longs)
     DERRIMAS_NONNULL(1);
 
 /* Frees the memory that registrations, links, ephemerons, cleanups and unfinished entries don't need, reserved room
- * included. If the allocator has no memory for a smaller table, the old one stays. No other call but .._destroy does
- * this. With the options `marks` and `live` it notes again all that passes ask about by regions, if there is memory for
- * these: the regions of what was removed are forgotten, and passes ask by regions again if memory for one had been lacking.
+ * included. If the allocator has no memory for a smaller table, the old one stays. No other call but .._destroy does this.
+ * With the options `marks` and `live` it notes everything again that passes ask about by regions, if there is memory for
+ * that: the regions of removed items are forgotten, and passes ask by regions again if memory for one had been lacking.
  * Takes time proportional to what there is.
  * Refused: NOT_OPEN, PASS_OPEN. */
 derrimas_finalizers_code derrimas_finalizers_shrink(derrimas_finalizers *finalizers) DERRIMAS_NONNULL(1);
@@ -283,11 +290,11 @@ derrimas_finalizers_register(derrimas_finalizers *finalizers, uint64_t object, d
 derrimas_finalizers_code derrimas_finalizers_unregister(derrimas_finalizers *finalizers, uint64_t object,
                                                         derrimas_finalizers_old *old) DERRIMAS_NONNULL(1);
 
-/* Makes a link from the word to the target. If the word has one of this kind, its target is replaced, and *answer is
- * DUPLICATE, otherwise LINKED; it may be NULL. A word may have one link of each kind. A pass clears the word and removes
- * the link when the target is lost: for a SHORT link unmarked when the pass begins, once the values of ephemerons have been
- * marked, for a LONG one also not retained for a finalizer. If the object that has the word is left unmarked, the pass removes
- * the link and leaves the word as it is.
+/* Makes a link from the word to the target. A word may have one link of each kind. If the word has one of this kind, its
+ * target is replaced. *answer, which may be NULL, is DUPLICATE then, and otherwise LINKED. A pass clears the word and
+ * removes the link when the target is lost. The target of a SHORT link is lost if it is unmarked when the pass begins, once
+ * the values of ephemerons have been marked; the target of a LONG link if in addition no finalizer retains it. If the object
+ * that has the word is left unmarked, the pass removes the link and leaves the word as it is.
  * Refused: BAD_KIND, NOT_OPEN, PASS_OPEN, ZERO, FULL, NO_MEMORY. */
 DERRIMAS_CHECKED derrimas_finalizers_code
 derrimas_finalizers_link(derrimas_finalizers *finalizers, derrimas_finalizers_link_kind kind, uint64_t word, uint64_t target,
@@ -298,23 +305,27 @@ derrimas_finalizers_link(derrimas_finalizers *finalizers, derrimas_finalizers_li
 derrimas_finalizers_code derrimas_finalizers_unlink(derrimas_finalizers *finalizers, derrimas_finalizers_link_kind kind,
                                                     uint64_t word, bool *was) DERRIMAS_NONNULL(1);
 
-/* Moves the link of this kind from the word to the word `to`. *answer, which may be NULL, is LINKED, also if both are the
- * same; or NOT_FOUND or DUPLICATE, and then nothing changed. It takes no memory, but for a new region with the option
- * `live`. A single move may rebuild the table, in the memory that it has, which takes time proportional to the links of the
- * kind.
+/* Moves the link of this kind from the word to the word `to`. *answer, which may be NULL, is LINKED, also if both words are
+ * the same; or NOT_FOUND or DUPLICATE, and then nothing changed. It takes no memory, except for a new region with the option
+ * `live`. A single move may rebuild the table, in the memory that the table has, which takes time proportional to the links
+ * of the kind.
  * Refused: BAD_KIND, NOT_OPEN, PASS_OPEN, ZERO (of `to`). */
 derrimas_finalizers_code derrimas_finalizers_move_link(derrimas_finalizers *finalizers, derrimas_finalizers_link_kind kind,
                                                        uint64_t word, uint64_t to, derrimas_finalizers_linked *answer)
     DERRIMAS_NONNULL(1);
 
-/* Makes the word an ephemeron of the key, in the place of the one that it may be. What the word points to is its value. The
- * host doesn't mark the value when it marks the object that has the word. A pass has it marked where that object and the key
- * are marked, or the key alone if no object has the word. So the word retains its value only as long as its object and the
- * key are retained, and a value that reaches its key doesn't retain it. If the word was an ephemeron, of either kind,
- * *answer is DUPLICATE, otherwise LINKED; it may be NULL. The word may have links, too. A pass clears the word and removes
- * the ephemeron when the key is lost: for a SHORT one unmarked when the pass begins, once the values have been marked, for a
- * LONG one also not retained for a finalizer. If the object that has the word is left unmarked, the pass removes the
- * ephemeron and leaves the word as it is. An ephemeron that is new or changes its kind may take memory.
+/* Makes the word an ephemeron of the key. If the word was an ephemeron, of either kind, this one replaces it, and *answer is
+ * DUPLICATE; otherwise *answer is LINKED. It may be NULL. The word may have links, too. The object to which the word points
+ * is its value.
+ *
+ * The host doesn't mark the value when it marks the object that has the word. A pass has it marked if that object and the
+ * key are marked, or if the key is marked and no object has the word. So the word retains its value only as long as its
+ * object and the key are retained, and a value that reaches its key doesn't retain it.
+ *
+ * A pass clears the word and removes the ephemeron when the key is lost. The key of a SHORT ephemeron is lost if it is
+ * unmarked when the pass begins, once values have been marked; the key of a LONG one if in addition no finalizer retains it.
+ * If the object that has the word is left unmarked, the pass removes the ephemeron and leaves the word as it is. An
+ * ephemeron that is new or changes its kind may take memory.
  * Refused: BAD_KIND, NOT_OPEN, PASS_OPEN, ZERO, FULL, NO_MEMORY. */
 DERRIMAS_CHECKED derrimas_finalizers_code
 derrimas_finalizers_ephemeron(derrimas_finalizers *finalizers, derrimas_finalizers_link_kind kind, uint64_t word, uint64_t key,
@@ -326,21 +337,24 @@ derrimas_finalizers_code derrimas_finalizers_end_ephemeron(derrimas_finalizers *
     DERRIMAS_NONNULL(1);
 
 /* Moves the ephemeron from the word to the word `to`; its kind and its key stay the same. *answer, which may be NULL, is
- * LINKED, also if both are the same; or NOT_FOUND, or DUPLICATE if `to` is an ephemeron of either kind, and then nothing
- * changed. It takes no memory. A single move may rebuild the table, in the memory that it has, which takes time proportional
- * to the ephemerons.
+ * LINKED, also if both words are the same; or NOT_FOUND, or DUPLICATE if `to` is an ephemeron of either kind, and then
+ * nothing changed. It takes no memory. A single move may rebuild the table, in the memory that the table has, which takes
+ * time proportional to the ephemerons.
  * Refused: NOT_OPEN, PASS_OPEN, ZERO (of `to`). */
 derrimas_finalizers_code derrimas_finalizers_move_ephemeron(derrimas_finalizers *finalizers, uint64_t word, uint64_t to,
                                                             derrimas_finalizers_linked *answer) DERRIMAS_NONNULL(1);
 
 /* Adds a cleanup to the object, which may have any number of them, registered or not. When the object is lost, an entry
- * without it is queued: its obj is 0, and its reg is *number, which no other cleanup and no registration has, and which
- * may be NULL. So the object isn't retained, and may be reclaimed after the same pass. A SHORT cleanup is due in a pass
- * that finds the object unmarked, just as short links to it are cleared; a LONG one in a pass that leaves it unmarked, so
- * when no finalizer retains it either. A pass queues the SHORT ones before all else, and the LONG ones after all else:
- * each by rank, then number. `proc` and `cd` are any numbers, which the entry has too. Until then .._roots yields `cd` as
- * REGISTERED_DATA, and the object not at all. If the host marks what `cd` reaches, that must not be the object: otherwise
- * the cleanup never comes.
+ * without the object is queued: its obj is 0, and its reg is *number, which no other cleanup and no registration has.
+ * `number` may be NULL. The object isn't retained, so it may be reclaimed after the same pass. `proc` and `cd` are any
+ * numbers, which the entry has too.
+ *
+ * A SHORT cleanup is due in a pass that finds the object unmarked, when short links to it are cleared. A LONG one is due in
+ * a pass that leaves the object unmarked, so when no finalizer retains it either. A pass queues the SHORT ones before
+ * everything else, and the LONG ones after everything else: each by rank, then number.
+ *
+ * Until the cleanup is queued .._roots yields `cd` as REGISTERED_DATA, and never yields the object. If the host marks what
+ * `cd` reaches, that must not be the object: otherwise the cleanup is never queued.
  * Refused: BAD_KIND, NOT_OPEN, PASS_OPEN, ZERO, EXHAUSTED, FULL, NO_MEMORY. */
 DERRIMAS_CHECKED derrimas_finalizers_code
 derrimas_finalizers_add_cleanup(derrimas_finalizers *finalizers, uint64_t object, derrimas_finalizers_when when, uint64_t proc,
@@ -365,35 +379,38 @@ derrimas_finalizers_code derrimas_finalizers_next_number(const derrimas_finalize
 derrimas_finalizers_code derrimas_finalizers_begin(derrimas_finalizers *finalizers) DERRIMAS_NONNULL(1);
 
 /* Opens a pass that looks only at registrations and cleanups whose numbers are at least `from`, for a young collection of a
- * host with generations. If the objects of all others are marked, it is the same pass as one that .._begin opens. `from` is
- * what .._next_number told when the objects that are old now were the newest. If an object before it isn't marked, the pass
- * doesn't ask about it, and its registration or cleanup stays; a question about a region asks about all its places. Links and
- * ephemerons are looked at as in any pass. The tables of registrations and cleanups are walked over as in any pass.
+ * host with generations. If the objects of all others are marked, it is the same pass as one that .._begin opens. So `from`
+ * is a number that .._next_number returned before any object was registered, or got a cleanup, that may be unmarked now. If
+ * an object with a lower number isn't marked, the pass doesn't ask about it, and its registration or cleanup stays; a
+ * question about a region asks about all its places. Links and ephemerons are treated as in any pass. The tables of
+ * registrations and cleanups are walked over as in any pass.
  * Refused: NOT_OPEN, PASS_OPEN. */
 derrimas_finalizers_code derrimas_finalizers_begin_from(derrimas_finalizers *finalizers, uint64_t from) DERRIMAS_NONNULL(1);
 
-/* Takes the answers to the question before (at first any), and puts the next question into *question. If the question
- * before was MARKS or LIVE, its answers are in question->marks. EMPTY: there is none, and the pass has ended; what it did is in
- * *passed, which may be NULL. A pass takes time proportional to the registrations, the links and the cleanups, and sorts
- * the unmarked objects and the cleanups; a single call may take as much when the pass goes on to another list. With the
- * options `marks` and `live` a pass asks about the regions of a list first: of the registered objects, of the targets or the
- * words of links of a kind, of the objects of cleanups of a moment. If all that is noted there is marked, this takes time
- * proportional to the regions, and not to the list. Otherwise the pass walks over the list too, and sorts or asks about only
- * what isn't marked. Four times it asks about each ephemeron, and then in rounds, as long as values are marked, about those
- * that still wait for their keys or objects. A chain of n ephemerons, the value of each of which reaches the key of the next,
- * takes n rounds: so n ephemerons take at most time proportional to the square of n. A host that makes the next call has
- * rounds about those whose keys were marked.
+/* Takes the answers to the question before (at first any), and puts the next question into *question. If the question before
+ * was MARKS or LIVE, its answers are in question->marks. EMPTY: there is no further question, and the pass has ended; what
+ * it did is in *passed, which may be NULL.
+ *
+ * A pass takes time proportional to the registrations, the links and the cleanups, and sorts the unmarked objects and the
+ * cleanups. A single call may take as much, when the pass goes on to another list. With the options `marks` and `live` a
+ * pass first asks about the regions of a list: of the registered objects, of the targets or the words of links of a kind, of
+ * the objects of cleanups of a kind. If everything noted there is marked, this takes time proportional to the regions, and
+ * not to the list. Otherwise the pass walks over the list too, but sorts or asks about only what isn't marked.
+ *
+ * Four times a pass asks about each ephemeron, and then in rounds, as long as values are marked, about those that still wait
+ * for their keys or objects. A chain of n ephemerons, the value of each of which reaches the key of the next, takes n
+ * rounds. So n ephemerons take at most time proportional to the square of n, or less if the host makes the next call.
  * Refused: NOT_OPEN, NO_PASS; EMPTY. */
 derrimas_finalizers_code derrimas_finalizers_next(derrimas_finalizers *finalizers, uint64_t answers,
                                                   derrimas_question *question, derrimas_finalizers_passed *passed)
     DERRIMAS_NONNULL(1, 3);
 
-/* Tells that the host has marked this object while it carries out a question MARK_VALUE: before all others that wait, the
- * pass asks about the ephemerons of which it is the key. A host may make this call for each object that it marks then and
- * that wasn't marked. With it a chain of n ephemerons takes time proportional to n times its logarithm. The result of the pass
- * doesn't depend on it: if an object is left out, told twice, not marked or no key, that changes the time alone. At any other
- * moment the call does nothing. It takes no memory, and time logarithmic in the ephemerons; the first call after a round about
- * all that wait sorts these.
+/* Reports that the host has marked this object while it carries out a question MARK_VALUE. The pass then asks about the
+ * ephemerons of which the object is the key before all others that wait. A host may make this call for each object that it
+ * marks then and that wasn't marked before. With it a chain of n ephemerons takes time proportional to n times its
+ * logarithm. The result of the pass doesn't depend on it: if an object is left out, reported twice, not marked or no key,
+ * only the time changes. At any other moment the call does nothing. It takes no memory, and time logarithmic in the
+ * ephemerons; the first call after a round about all that wait sorts these.
  * Refused: NOT_OPEN. */
 derrimas_finalizers_code derrimas_finalizers_key_marked(derrimas_finalizers *finalizers, uint64_t key) DERRIMAS_NONNULL(1);
 
@@ -418,8 +435,9 @@ derrimas_finalizers_code derrimas_finalizers_queue_all(derrimas_finalizers *fina
 derrimas_finalizers_code derrimas_finalizers_queue_cleanups(derrimas_finalizers *finalizers, uint64_t *queued)
     DERRIMAS_NONNULL(1);
 
-/* Takes the first entry that waits. It is held, with its object and its client data, until .._finish. A pass may be open,
- * also for the next two calls: what it has queued so far may be taken. A procedure that runs meanwhile is a mutator.
+/* Takes the first entry that waits. It is held, with its object and its client data, until .._finish. This call and the next
+ * two may be made while a pass is open: what the pass has queued so far may be taken. A procedure that runs meanwhile is a
+ * mutator.
  * Refused: NOT_OPEN, EMPTY. */
 derrimas_finalizers_code derrimas_finalizers_take(derrimas_finalizers *finalizers, derrimas_finalizers_entry *entry)
     DERRIMAS_NONNULL(1, 2);
@@ -439,7 +457,7 @@ derrimas_finalizers_code derrimas_finalizers_finish(derrimas_finalizers *finaliz
  * open pass queues counts from the end of the pass. */
 bool derrimas_finalizers_has_waiting(const derrimas_finalizers *finalizers) DERRIMAS_NONNULL(1);
 
-/* ---- what a handle has; nothing changes by it, and a pass may be open */
+/* ---- what a handle has; these calls change nothing, and a pass may be open */
 
 /* The roots: before each pass a host marks them and what they reach. */
 typedef enum derrimas_finalizers_root {
@@ -459,8 +477,8 @@ derrimas_finalizers_code derrimas_finalizers_roots(const derrimas_finalizers *fi
                                                    uint64_t *from, uint64_t *buffer, size_t room, size_t *count)
     DERRIMAS_NONNULL(1, 3, 6);
 
-/* The first entry whose place in the queue, `seq`, is `from` or more and that isn't finished: it waits or is held. From 0 on,
- * and then each time from behind the one before, these are all unfinished entries, in the queue's order.
+/* The first entry that isn't finished (it waits or is held) and whose place in the queue, `seq`, is `from` or more. To walk
+ * over all unfinished entries in the queue's order, begin with 0, and then each time with one more than the last `seq`.
  * Refused: NOT_OPEN; EMPTY if there is none. */
 derrimas_finalizers_code derrimas_finalizers_unfinished(const derrimas_finalizers *finalizers, uint64_t from,
                                                         derrimas_finalizers_entry *entry) DERRIMAS_NONNULL(1, 3);
@@ -547,7 +565,7 @@ typedef enum derrimas_why_root {
 } derrimas_why_root;
 
 /* An answer: the reason; for FOUND the root; for QUEUED the entry; and the path's length, which is 0 if there is none.
- * What isn't for the reason is 0. */
+ * Fields that don't belong to the reason are 0. */
 typedef struct derrimas_why {
     derrimas_why_reason reason;
     derrimas_why_root root;
@@ -584,12 +602,12 @@ DERRIMAS_CHECKED derrimas_finalizers_code derrimas_finalizers_why(derrimas_final
                                                                   const derrimas_paths *paths, void *data, derrimas_why *why,
                                                                   uint64_t *path, size_t room) DERRIMAS_NONNULL(1, 3, 5);
 
-/* Lists the registered objects that wait for a ring: those of which .._why says RING, and those to which the paths of rings
- * lead on, also together, by a key and by a word of one ephemeron. No pass queues them as long as their words, ephemerons
- * and registrations stay, and keys that are reachable stay so. Each is listed once, in the order of
- * .._registrations. The buffer `objects`, which has `room` places and may be NULL where `room` is 0, gets the first of
- * them, as many as fit; *count is how many there are. It changes nothing, and takes the memory of .._why; it takes the time
- * of .._why for each unreachable registered object.
+/* Lists the registered objects that wait for a ring: those of which .._why says RING, and those that rings reach. Several
+ * rings count together, if one reaches the key of an ephemeron, and another the object that has its word. No pass queues
+ * these objects as long as their words, ephemerons and registrations stay, and keys that are reachable stay reachable. Each
+ * is listed once, in the order of .._registrations. The buffer `objects`, which has `room` places and may be NULL if `room`
+ * is 0, gets the first of them, as many as fit; *count is how many there are. It changes nothing, and takes the memory of
+ * .._why; it takes the time of .._why for each unreachable registered object.
  * Refused: NOT_OPEN, PASS_OPEN; OVERLAP, NO_MEMORY, whichever comes first. */
 DERRIMAS_CHECKED derrimas_finalizers_code derrimas_finalizers_stuck(derrimas_finalizers *finalizers, const derrimas_paths *paths,
                                                                     void *data, uint64_t *objects, size_t room, size_t *count)
@@ -623,15 +641,18 @@ const char *derrimas_finalizers_reason_name(derrimas_why_reason reason);
 
 /* ---- a host's procedures, and a pass that they drive */
 
-/* A host: what it does for each question. `data` is what derrimas_finalizers_pass was given. What is promised of a pass
- * holds if there are a graph and a set of marked objects such that: is_marked says whether the object is in the set; so
- * does each bit of marks, about the object that begins at its place; each bit of live is what holder_is_marked says of the
- * number of its place; the three marks add to the set what the questions say, or more; nothing else changes the set in the
- * pass; and at the beginning and after each mark the set has all that its objects reach. With but_itself, mark_children
+/* A host: its functions for the questions. `data` is what derrimas_finalizers_pass was given. With but_itself, mark_children
  * passes over words that point to the object itself. marks and live return the word of the region that begins at `first`;
  * each is NULL in a host that doesn't open with the option of its name. mark_value returns whether something may have been
- * marked that wasn't; it is NULL in a host without ephemerons. Words of ephemerons aren't among the words by which an object
- * reaches another. */
+ * marked that wasn't; it is NULL in a host without ephemerons.
+ *
+ * What is promised of a pass holds if there are a graph and a set of marked objects such that:
+ * - is_marked says whether the object is in the set, and so does each bit of marks, about the object that begins at its
+ *   place; each bit of live is what holder_is_marked says of the number of its place;
+ * - mark, mark_children, mark_alone and mark_value add to the set what the questions say, or more, and nothing else changes
+ *   the set in the pass;
+ * - at the beginning and after each mark the set has everything that its objects reach. Words of ephemerons aren't among the
+ *   words by which an object reaches another. */
 typedef struct derrimas_host {
     bool (*is_marked)(void *data, uint64_t object);
     void (*mark_children)(void *data, uint64_t object, bool but_itself);
@@ -680,12 +701,12 @@ static inline bool derrimas_host_is_whole(const derrimas_host *host, const derri
            || counts.short_ephemerons + counts.long_ephemerons == 0;
 }
 
-/* A whole pass, driven by the procedures of a host, which looks only at registrations and cleanups whose numbers are at least
- * `from`: .._begin_from says which that may be. They may make the calls that take a const handle, and mark_value may call
- * derrimas_finalizers_key_marked; they must return.
- * *passed, which may be NULL, is what it did. BAD_OPTIONS: the handle was opened with the option `marks` or `live`, and the
- * host has no function of this name; is_marked can't be asked instead, since there may be no object at a place of a region.
- * Or there are ephemerons, and the host has no mark_value.
+/* A whole pass, driven by the functions of a host, which looks only at registrations and cleanups whose numbers are at least
+ * `from`: .._begin_from says which number that may be. The functions may make the calls that take a const handle, and
+ * mark_value may call derrimas_finalizers_key_marked; they must return. *passed, which may be NULL, is what the pass did.
+ * BAD_OPTIONS: the handle was opened with the option `marks` or `live`, and the host has no function of this name; is_marked
+ * can't be asked instead, since there may be no object at a place of a region. Or there are ephemerons, and the host has no
+ * mark_value.
  * Refused: BAD_OPTIONS, NOT_OPEN, PASS_OPEN. */
 static inline derrimas_finalizers_code derrimas_finalizers_pass_from(derrimas_finalizers *finalizers, uint64_t from,
                                                                      const derrimas_host *host, void *data,

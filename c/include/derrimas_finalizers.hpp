@@ -44,7 +44,7 @@ public:
         held_objects = DERRIMAS_FINALIZERS_HELD_OBJECTS, held_data = DERRIMAS_FINALIZERS_HELD_DATA, registered_data = DERRIMAS_FINALIZERS_REGISTERED_DATA
     };
 
-    using allocator = derrimas_allocator; /* its functions don't throw: the library can't be left through */
+    using allocator = derrimas_allocator; /* its functions don't throw: no exception may leave the library */
     using old = derrimas_finalizers_old;
     using entry = derrimas_finalizers_entry;
     using registration = derrimas_finalizers_registration_at;
@@ -194,8 +194,9 @@ public:
         return old.was ? std::optional(old) : std::nullopt;
     }
 
-    /* An open pass, question by question, over the registrations and cleanups from a number on, as derrimas_finalizers_begin_from. If it is destroyed before the last question, the pass is abandoned: then the host reclaims nothing before its next
-     * pass has ended. The finalizers have to outlive it, and must not be moved. */
+    /* An open pass, question by question, over the registrations and cleanups from a number on, as derrimas_finalizers_begin_from. If it is destroyed before the
+     * last question, the pass is abandoned: then the host reclaims nothing before its next pass has ended. The finalizers have to outlive it, and must not be
+     * moved. */
     class open_pass {
     public:
         explicit open_pass(finalizers &finalizers, std::uint64_t from = 0) : handle_(&finalizers.handle_)
@@ -443,7 +444,7 @@ public:
 private:
     static constexpr std::size_t PART = 64; /* of a walk */
 
-    /* A host that lists its heap for the library, which can't be left by what a member throws. */
+    /* A host that lists its heap for the library. What a member throws is kept, since no exception may leave the library. */
     template <typename Host> struct listing {
         Host &host;
         std::exception_ptr thrown;

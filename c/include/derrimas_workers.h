@@ -77,8 +77,8 @@ DERRIMAS_CHECKED derrimas_finalizers_code derrimas_workers_start(derrimas_worker
     DERRIMAS_NONNULL(1, 2);
 
 /* Takes all entries that wait and publishes them for the workers, and wakes one worker for each. From then on an entry is
- * held. If memory is short, one entry is kept here, and the others wait: each finish of a worker tries again. A pass may
- * be open: then what it has queued so far is published too. The caller has the lock.
+ * held. It takes memory by malloc. If memory is short, one entry is kept here, and the others wait: each finish of a worker
+ * tries again, under the lock. A pass may be open: then what it has queued so far is published too. The caller has the lock.
  * Refused: NOT_OPEN (the workers, or their finalizers); NO_MEMORY if not all are published. */
 derrimas_finalizers_code derrimas_workers_publish(derrimas_workers *workers) DERRIMAS_NONNULL(1);
 

@@ -31,7 +31,7 @@ class Kind(enum.IntEnum):
 
 
 class Words(enum.IntEnum):
-    """The kinds of objects: the words of an atomic one keep nothing."""
+    """The kinds of objects: the words of an atomic one are no pointers."""
     SCANNED, ATOMIC = range(2)
 
 
@@ -54,19 +54,19 @@ class Refused(Error):
 
 Slot = struct("Slot", "A slot of a frame.", "frame", "slot")
 Made = struct("Made", "A new object: its address, and its birth, which no other object has.", "address", "birth")
-Old = struct("Old", "A registration that went away, if there `was` one.", "proc", "cd", ("was", c_bool))
+Old = struct("Old", "What was registered before, if there `was` a registration.", "proc", "cd", ("was", c_bool))
 Registered = struct("Registered", "Whether a registration was `made`, its number, and what it replaced.", "number", ("replaced", Old), ("made", c_bool))
 Passed = struct("Passed", "What a pass did: its number, the entries that it queued, the objects that it reclaimed.", "number", "picked", "reclaimed")
 Entry = struct("Entry", "An entry of the queue: its place, its pass, its registration, object, birth, procedure and client data.",
                "seq", "passed", "reg", "obj", "birth", "proc", "cd")
-Object = struct("Object", "An object that stands in the heap.", "start", "size", "birth", ("atomic", c_bool))
-Registration = struct("Registration", "A registration that stands; its kind is a Kind.", "object", "number", "proc", "cd", ("kind", c_uint32), ("rank", c_uint8))
-Linked = struct("Linked", "A link that stands: the address of its word, and that of its target.", "place", "target")
+Object = struct("Object", "An object of the heap.", "start", "size", "birth", ("atomic", c_bool))
+Registration = struct("Registration", "A registration; its kind is a Kind.", "object", "number", "proc", "cd", ("kind", c_uint32), ("rank", c_uint8))
+Linked = struct("Linked", "A link: the address of its word, and that of its target.", "place", "target")
 Counts = struct("Counts", "Counts of a world's life.", "passes", "reclaimed", "queued", "taken", "outstanding", "scans", "noted")
 SAMPLED = {"slot": Slot, "made": Made, "replaced": Old, "registered": Registered, "passed": Passed, "entry": Entry, "object": Object,
            "registration": Registration, "linked": Linked, "counts": Counts}
 Samples = struct("Samples", "One of each struct, as derrimas_sample fills them.", *SAMPLED.items())
-Handle = struct("Handle", "What stands for a world in C.", ("inside", c_void_p))
+Handle = struct("Handle", "The handle of a world in C.", ("inside", c_void_p))
 PROCEDURE = ctypes.CFUNCTYPE(None, POINTER(Handle), POINTER(Entry), c_void_p)
 
 
@@ -237,7 +237,7 @@ class World:
         self.procedures[proc] = function
 
     def invoke_finalizers(self) -> int:
-        """Takes entries until none is left, calls the procedure of each, and finishes it, unless the procedure did, and also where it raised. Returns their
+        """Takes entries until none is left, calls the procedure of each, and finishes it, unless the procedure did, even if it raised. Returns their
         number."""
         taken = 0
         while (entry := self.take()) is not None:
@@ -250,7 +250,7 @@ class World:
         return taken
 
     def finalize_all(self, slot: At) -> int:
-        """For the end: runs the entries that wait, and then the finalizer of each registered object, by rank, then address, as no pass would. The slot keeps
+        """For the end: runs the entries that wait, and then the finalizer of each registered object, by rank, then address, as no pass would. The slot retains
         an object meanwhile. Entries are copies, which a procedure may keep. The first exception of a procedure, also one that exits, is raised here, once
         all have run. Returns how many ran. It takes memory for each number up to the largest that has a procedure."""
         raised = []
@@ -303,7 +303,7 @@ class World:
         return self._walk("next_held", "seq", Entry)
 
     def queued(self, seq: int) -> Optional[Entry]:
-        """The entry at a place of the queue, or None where the queue isn't so long, or the entry is finished and forgotten."""
+        """The entry at a place of the queue, or None if the queue isn't so long, or the entry is finished and forgotten."""
         return self._or_none("queued", seq, answer=Entry)
 
     def forgotten(self) -> int:
@@ -330,7 +330,7 @@ class Scope:
             self.world.set((self.frame, self.next), 0)
 
     def slot(self) -> At:
-        """The next slot, at 0. Refused as BadSlot where the frame has none left."""
+        """The next slot, which is set to 0. Refused as BadSlot if the frame has none left."""
         slot = (self.frame, self.next)
         self.world.set(slot, 0)
         self.next += 1

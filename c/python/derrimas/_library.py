@@ -19,7 +19,7 @@ class Error(Exception):
 
 
 def load() -> ctypes.CDLL:
-    """The library that the variable DERRIMAS names, or that of the package. ImportError where there is none, or it is one of another major version."""
+    """The library that the variable DERRIMAS names, or that of the package. ImportError if there is none, or if it is one of another major version."""
     places = [os.environ["DERRIMAS"]] if os.environ.get("DERRIMAS") else [os.path.join(room, "libderrimas.so.1") for room in ROOMS]
     path = next(filter(os.path.exists, places), None)
     if path is None:

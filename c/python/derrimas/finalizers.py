@@ -84,17 +84,17 @@ ROOT = CFUNCTYPE(c_bool, c_void_p, c_uint64, POINTER(c_uint64))
 IS_OBJECT = CFUNCTYPE(c_bool, c_void_p, c_uint64)
 Allocator = struct("Allocator", "An allocator's functions, in C.", ("allocate", ALLOCATE), ("reallocate", REALLOCATE), ("release", RELEASE), ("data", c_void_p))
 Options = struct("Options", "What a handle is opened with.", ("size", c_size_t), ("allocator", Allocator), ("marks", c_bool), ("live", c_bool))
-Handle = struct("Handle", "What stands for finalizers in C.", ("inside", c_void_p), "waiting", ("allocator", Allocator), ("trace", c_void_p), ("ages", c_uint64 * 11),
+Handle = struct("Handle", "The handle of finalizers in C.", ("inside", c_void_p), "waiting", ("allocator", Allocator), ("trace", c_void_p), ("ages", c_uint64 * 11),
                 ("asks_marks", c_bool), ("asks_live", c_bool))
-Old = struct("Old", "A registration or a cleanup that went away, if there `was` one.", "proc", "cd", ("was", c_bool))
+Old = struct("Old", "What was registered before, or a cleanup, if there `was` one.", "proc", "cd", ("was", c_bool))
 Registered = struct("Registered", "A new registration: its number, and what it replaced.", "number", ("replaced", Old))
 Entry = struct("Entry", "An entry of the queue: its place, its pass, its registration or cleanup, its object (0 of a cleanup), procedure and client data.",
                "seq", "passed", "reg", "obj", "proc", "cd")
-Trace = struct("Trace", "What is told of what happens, in C.", ("queued", CFUNCTYPE(None, c_void_p, c_uint64, c_uint64)), ("cleared", CFUNCTYPE(None, c_void_p, c_uint64)),
+Trace = struct("Trace", "The hooks of a trace, in C.", ("queued", CFUNCTYPE(None, c_void_p, c_uint64, c_uint64)), ("cleared", CFUNCTYPE(None, c_void_p, c_uint64)),
                ("finished", CFUNCTYPE(None, c_void_p, POINTER(Entry))), ("data", c_void_p))
-Registration = struct("Registration", "A registration that stands; its kind is a Kind.", "object", "number", "proc", "cd", ("kind", c_uint32), ("rank", c_uint8))
-Linked = struct("Linked", "A link that stands: its word and its target; or an ephemeron: its word and its key, as the target.", "word", "target")
-Cleanup = struct("Cleanup", "A cleanup that stands: `when` is a When.", "number", "object", "proc", "cd", ("when", c_uint32), ("rank", c_uint8))
+Registration = struct("Registration", "A registration; its kind is a Kind.", "object", "number", "proc", "cd", ("kind", c_uint32), ("rank", c_uint8))
+Linked = struct("Linked", "A link: its word and its target; or an ephemeron: its word and its key, as the target.", "word", "target")
+Cleanup = struct("Cleanup", "A cleanup: `when` is a When.", "number", "object", "proc", "cd", ("when", c_uint32), ("rank", c_uint8))
 Counts = struct("Counts", "How many registrations, links, ephemerons, cleanups, waiting and held entries there are; how many entries and passes there ever were.",
                 "registrations", "short_links", "long_links", "short_ephemerons", "long_ephemerons", "cleanups", "waiting", "held", "queued", "passes")
 Passed = struct("Passed", "What a pass did: its number, and the entries that it queued.", "number", "picked")
@@ -122,7 +122,7 @@ class Why(NamedTuple):
 
 
 class Question:
-    """A question: what it asks, and of which objects, words or regions, each of which is told by where it begins."""
+    """A question: what it asks, and about which objects, words or regions. A region is named by its first number."""
 
     def __init__(self, asked: Any) -> None:
         self.ask, self.what = Ask(asked.ask), list(asked.what[:asked.count])
@@ -161,7 +161,7 @@ class Finalizers:
     """The finalizers of a heap. They are destroyed at the end of their `with`, or when Python frees them.
 
     An allocator has the methods allocate(size), reallocate(memory, size) and release(memory), whose memory are addresses; None is no memory. What one raises
-    is raised by the call in which it came, once that has ended, and counts as no memory; so does what is no address, as TypeError. With `marks` a pass asks
+    is raised by the call in which it was called, once that has ended, and counts as no memory; a result that is no address does so too, as TypeError. With `marks` a pass asks
     about regions of objects, and with `live` about regions of words."""
 
     def __init__(self, allocator: Any = None, marks: bool = False, live: bool = False) -> None:
@@ -199,7 +199,7 @@ class Finalizers:
         return kind(*(kept(name, function) for name, function in kind._fields_ if name != "data"))
 
     def _raise(self) -> None:
-        """Raises the first that an allocator raised."""
+        """Raises the first exception that an allocator raised."""
         if self.raised:
             first, self.raised = self.raised[0], []
             raise first
@@ -273,11 +273,11 @@ class Finalizers:
         return LinkAnswer(self._answer(c_uint32, "move_ephemeron", word, to))
 
     def key_marked(self, key: int) -> None:
-        """Tells an object that mark_value of a host has marked, so that a pass asks about the ephemerons of this key before the others: the result is the same."""
+        """Reports an object that mark_value of a host has marked, so that a pass asks about the ephemerons of this key before the others. The result is the same."""
         self._call("key_marked", key)
 
     def add_cleanup(self, object: int, proc: int, cd: int = 0, rank: int = 0, when: When = When.LONG) -> int:
-        """Adds a cleanup to the object, and returns its number. Its entry comes when the object is lost, with that number and without the object."""
+        """Adds a cleanup to the object, and returns its number. When the object is lost, an entry with that number is queued, without the object."""
         return self._answer(c_uint64, "add_cleanup", object, when, proc, cd, rank)
 
     def cancel(self, number: int) -> Old:
@@ -290,7 +290,7 @@ class Finalizers:
         return OpenPass(self, start)
 
     def run_pass(self, host: Any, start: int = 0) -> Passed:
-        """A whole pass, which the methods of the host answer. Where one raises, or a hook does before the end, the pass is abandoned: reclaim nothing before
+        """A whole pass, which the methods of the host answer. If one raises, or a hook does before the end, the pass is abandoned: reclaim nothing before
         the next one has ended. Finalizers that ask about regions refuse a host without `marks` or `live`, and those with ephemerons one without
         `mark_value`, as BadOptions. With `start` it looks at registrations and cleanups from that number on."""
         lacking = [name for name, is_asked in (("marks", self.handle.asks_marks), ("live", self.handle.asks_live)) if is_asked and not hasattr(host, name)]
@@ -374,7 +374,7 @@ class Finalizers:
         self.procedures[proc] = function
 
     def invoke_finalizers(self) -> int:
-        """Takes entries until none is left, calls the procedure of each, and finishes it, unless the procedure did, and also where it raised. Returns their
+        """Takes entries until none is left, calls the procedure of each, and finishes it, unless the procedure did, even if it raised. Returns their
         number."""
         taken = 0
         while (entry := self.take()) is not None:
@@ -399,7 +399,7 @@ class Finalizers:
             yield from [item.from_buffer_copy(it) if issubclass(item, Structure) else it for it in some[:count.value]]
 
     def roots(self, sort: Root) -> Iterator[int]:
-        """The roots of this sort. As in each walk, no call but those that change nothing may come before its end."""
+        """The roots of this sort. As in each walk, only calls that change nothing may be made before its end."""
         return self._walk(c_uint64, "roots", sort)
 
     def registrations(self) -> Iterator[Registration]:
@@ -449,8 +449,8 @@ class Finalizers:
         return self._answer(Counts, "count")
 
     def trace(self, hooks: Any) -> None:
-        """Tells `hooks` from now on what happens, by those that it has of the methods queued(pass, count), cleared(word) and finished(entry). None ends this. What
-        a method raises is raised by the call in which it came, once that has ended; what that returned is lost then, as the entry of take_finished."""
+        """Calls those methods that `hooks` has, from now on: queued(pass, count), cleared(word) and finished(entry). None ends this. What a method raises is raised
+        by the call in which it was called, once that has ended; the result of that call is lost then, such as the entry of take_finished."""
         self.hooks = self._functions(Trace, hooks) if hooks is not None else None
         LIBRARY.derrimas_finalizers_trace(byref(self.handle), byref(self.hooks) if self.hooks else None)
 
@@ -462,7 +462,7 @@ class Finalizers:
 
 
 class Listing:
-    """A host's heap, as the library has it listed: by an object and a number."""
+    """A host's heap, as the library asks for it: word by word of an object, and root by root."""
 
     def __init__(self, host: Any) -> None:
         self.host, self.objects, self.all_roots = host, {}, None
@@ -516,7 +516,7 @@ class OpenPass:
             self.abandon()
 
     def next(self, answers: Answers = 0) -> Optional[Question]:
-        """Takes the answers to the question before, at first any number, and returns the next; None where the pass has ended: `did` is what it did then. The
+        """Takes the answers to the question before, at first any number, and returns the next; None if the pass has ended: then `did` is what it did. The
         answers are a number, and after Ask.MARKS and Ask.LIVE a list with a word for each region: ValueError otherwise, since an object whose mark is missing would be
         finalized."""
         if isinstance(answers, int) == bool(self.regions) or (self.regions and len(answers) != self.regions):
@@ -547,8 +547,8 @@ def truth(answer: Any) -> bool:
 
 
 def answers_of(host: Any, question: Question) -> Answers:
-    """The answers to a question by the methods of a host: bit i is the answer about what[i], and item i of a list is the word of the region what[i]. What is only
-    to be done has none."""
+    """The answers to a question by the methods of a host: bit i is the answer about what[i], and item i of a list is the word of the region what[i]. The answer to a
+    command is 0."""
     if question.ask in (Ask.MARKS, Ask.LIVE):
         return [(host.marks if question.ask == Ask.MARKS else host.live)(first) for first in question.what]
     if question.ask in (Ask.IS_MARKED, Ask.HOLDER_IS_MARKED, Ask.MARK_VALUE):

@@ -26,7 +26,7 @@ LOCK = CFUNCTYPE(None, c_void_p)
 RUN = CFUNCTYPE(None, c_void_p, POINTER(Entry))
 Options = struct("Options", "What workers are started with.", ("size", c_size_t), ("finalizers", POINTER(Handle)), ("enter", LOCK), ("leave", LOCK),
                  ("run", RUN), ("data", c_void_p), "workers")
-Crew = struct("Crew", "What stands for workers in C.", ("inside", c_void_p))
+Crew = struct("Crew", "The handle of workers in C.", ("inside", c_void_p))
 Counts = struct("Counts", "How many workers have not ended; how many entries were published, finished and abandoned; how often memory was short.",
                 "workers", "published", "finished", "abandoned", "shortages")
 
