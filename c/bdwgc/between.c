@@ -21,6 +21,12 @@ __attribute__((weak)) code __wrap_derrimas_finalizers_open(handle *finalizers, c
     return __real_derrimas_finalizers_open(finalizers, &between);
 }
 
+/* ---- what calls retain: reachable.h calls this. A program may define it itself. */
+
+void reachable_here(const void *object);
+
+__attribute__((weak)) void reachable_here(const void *object) { (void)object; }
+
 /* ---- the pass: questions that aren't asked, questions that are altered, and answers that are */
 
 static bool is_left_out(const derrimas_question *question)

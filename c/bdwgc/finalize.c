@@ -783,9 +783,10 @@ __attribute__((always_inline)) GC_INLINE uint64_t words(derrimas_question *quest
 __attribute__((always_inline)) GC_INLINE uint64_t each(const derrimas_question *question, bool (*answer)(struct lookup *, ptr_t))
 {
     struct lookup last = {NULL, NULL, NULL, 0, false};
+    const uint64_t count = question->count;
     uint64_t answers = 0, i;
 
-    for (i = 0; i < question->count; i++)
+    for (i = 0; i < count; i++)
         answers |= (uint64_t)answer(&last, SHOW(question->what[i])) << i;
     return answers;
 }

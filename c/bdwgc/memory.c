@@ -102,10 +102,23 @@ enum { TURNS = 60 };
 
 static struct { unsigned turn, tried, lost; } *of_all; /* shared by processes, in each of which the first call asks for memory */
 
+static uintptr_t hidden_fresh; /* the object that the call has to retain */
+static bool tells, is_retained; /* whether the library tells what its calls retain, and whether it told that object since the collection */
+
+void reachable_here(const void *object);
+
+/* A conservative collector may find what a call let go, by an address that is left on the stack. So a library that was built with reachable.h calls this, too. */
+void reachable_here(const void *object)
+{
+    tells = true;
+    is_retained |= (uintptr_t)object == ~hidden_fresh;
+}
+
 static void *find_by_collecting(size_t size)
 {
     asked++;
     collect();
+    is_retained = false;
     return GC_malloc(size);
 }
 
@@ -114,6 +127,8 @@ APART static void *fresh(void **aux)
 {
     *aux = GC_MALLOC(16);
     GC_register_long_link(aux, *aux);
+    hidden_fresh = ~(uintptr_t)*aux;
+    scrub(); /* the last call had it in its frame, in which the next one has places that it doesn't write */
     refusals = 1;
     return *aux;
 }
@@ -146,7 +161,7 @@ static void lose(void)
     default: register_data(&words[0], object);
     }
     of_all->tried += asked;
-    of_all->lost += !words[0];
+    of_all->lost += !words[0] || (tells && !is_retained);
 }
 
 static void lose_none(void)

@@ -397,9 +397,11 @@ derrimas_finalizers_code derrimas_finalizers_begin_from(derrimas_finalizers *fin
  * the objects of cleanups of a kind. If everything noted there is marked, this takes time proportional to the regions, and
  * not to the list. Otherwise the pass walks over the list too, but sorts or asks about only what isn't marked.
  *
- * Four times a pass asks about each ephemeron, and then in rounds, as long as values are marked, about those that still wait
- * for their keys or objects. A chain of n ephemerons, the value of each of which reaches the key of the next, takes n
- * rounds. So n ephemerons take at most time proportional to the square of n, or less if the host makes the next call.
+ * A pass asks three questions about an ephemeron whose key and object are marked, and nothing more once it has had the value
+ * marked. Four times it asks, in rounds, as long as values are marked, about those that still wait for their keys or
+ * objects. A chain of n ephemerons, the value of each of which reaches the key of the next, takes n rounds. So n ephemerons
+ * take at most time proportional to the square of n, or less if the host makes the next call. While a pass is open, the
+ * value of an ephemeron's word changes only when that word is cleared.
  * Refused: NOT_OPEN, NO_PASS; EMPTY. */
 derrimas_finalizers_code derrimas_finalizers_next(derrimas_finalizers *finalizers, uint64_t answers,
                                                   derrimas_question *question, derrimas_finalizers_passed *passed)

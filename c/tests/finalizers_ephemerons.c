@@ -518,8 +518,8 @@ static void long_chain(size_t rows, bool against)
     }
     memset(all.asked, 0, sizeof all.asked);
     collects(rows + 1, 0, rows + 2);
-    IS(all.asked[DERRIMAS_ASK_MARK_VALUE] == rows + 3 * rows && counted().short_ephemerons == rows, true);
-    IS(all.asked[DERRIMAS_ASK_IS_MARKED] <= rows * (rows + 1) / 2 + 8 * rows, true);
+    IS(all.asked[DERRIMAS_ASK_MARK_VALUE] == rows && all.asked[DERRIMAS_ASK_HOLDER_IS_MARKED] == rows && counted().short_ephemerons == rows, true);
+    IS(all.asked[DERRIMAS_ASK_IS_MARKED] <= rows * (rows + 1) / 2, true);
     objects[1].is_root = false;
     collects(rows + 1, 0, 1);
     IS(counted().short_ephemerons, 0);
@@ -579,7 +579,7 @@ static void chain_in_order(uint64_t rows, uint64_t step, bool tells)
     for (uint64_t n = 1; n <= rows + 1; n++)
         IS(chain.marked[n], true);
     IS(counted().short_ephemerons, rows);
-    IS(!tells || (chain.questions <= 4 * rows + 40 && chain.answers <= 16 * rows), true);
+    IS(!tells || (chain.questions <= 4 * rows && chain.answers <= 4 * rows), true);
     IS(tells || chain.answers >= rows * rows / 2, true);
     passes_over_chain(false);
     IS(counted().short_ephemerons, 0);
@@ -658,7 +658,7 @@ static void values_that_are_asked(void)
     row(LONG, 3, 0, 1, 6); /* the holder isn't */
     row(LONG, 3, 1, 2, 7); /* neither is */
     collects(7, 0, 3);
-    IS(all.asked[DERRIMAS_ASK_MARK_VALUE], 4);
+    IS(all.asked[DERRIMAS_ASK_MARK_VALUE], 1);
     IS(objects[4].is_marked && counted().long_ephemerons == 1, true);
     closes();
 }

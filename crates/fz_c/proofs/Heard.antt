@@ -1,7 +1,7 @@
 -- What a machine hears from C.
 use Rattle.std.proofs.Common.{◌≡◌, ◌<◌, [], ◌∷◌, ℕ, Bool, List, length, take, ap, refl, arith}
-use Rattle.fz_machine.specs.Machines.{Answers, Machine, Words}
-use Rattle.fz_c.specs.MachinePassing.{heard, heard_of}
+use Rattle.fz_machine.specs.Machines.{Answers, Words}
+use Rattle.fz_c.specs.MachinePassing.{heard_of}
 
 -- after a question about regions it hears words
 pub of_regions : (regions : List ℕ) (asked : ℕ) (bits : List Bool) (words : List ℕ) → 0 < length regions → Words words ≡ heard_of regions asked bits words

@@ -1,6 +1,5 @@
 //! A registration that was replaced or removed.
 
-ghost use Rattle.std.specs.Prelude.{◌≡◌};
 ghost use Rattle.fz_c.specs.Values.{TellsOld};
 
 /// The procedure and the client data of a registration that was replaced or removed, and whether there was one.

@@ -1,6 +1,7 @@
 pub mod Counting
 pub mod Flags
 pub mod Fitting
+pub mod Roomy
 pub mod Following
 pub mod Filled
 pub mod Queueing

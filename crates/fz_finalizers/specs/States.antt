@@ -1,6 +1,6 @@
 -- The model of finalizers: registrations, links, ephemerons, cleanups, entries, the room that is reserved, and the order of iterators.
 -- code: fz_finalizers/src/finalizers.rt
-use Rattle.std.specs.Prelude.{◌≡◌, ℕ, ◌≤◌, min, Bool, List, [], ◌++◌, drop, Option, option_map, refl, Some, IsTrue}
+use Rattle.std.specs.Prelude.{◌≡◌, ℕ, ◌+◌, ◌≤◌, min, Bool, List, [], ◌++◌, drop, Option, option_map, refl, Some, IsTrue, Result, Ok, Err}
 use Rattle.std.specs.Coded.{Coded, code_by, coded×, coded_ℕ, coded_list, coded_option, coded_bool}
 use Rattle.std.specs.List.{list_any}
 use Rattle.std.specs.FinMap as map
@@ -16,6 +16,7 @@ use Rattle.fz_model.specs.Codes.{entry_code, registration_code}
 use Rattle.fz_model.specs.Events.{same_entry}
 use Rattle.fz_model.specs.State.{Map}
 use Rattle.fz_finalizers.specs.declared.kinds.Kind.{Kind}
+use Rattle.fz_finalizers.specs.declared.refused.Refused.{Refused}
 use Rattle.fz_table.specs.declared.limits.TheConstants.{MOST_ENTRIES}
 use Rattle.fz_table.specs.declared.stored.Stored.{Stored}
 use Rattle.fz_table.specs.Tabled.{Set, stored_code}
@@ -161,5 +162,24 @@ limited entries = min entries MOST_ENTRIES
 abbrev pub HasRooms : Rooms → ℕ → ℕ → ℕ → Type 0
 HasRooms rooms registrations shorts longs = (limited registrations ≤ rooms.registrations) × (limited shorts ≤ rooms.short) × (limited longs ≤ rooms.long)
 
+-- at least as much room is reserved as before
 abbrev pub IsRoomier : Rooms → Rooms → Type 0
-IsRoomier old new = (old.registrations ≤ new.registrations) × (old.short ≤ new.short) × (old.long ≤ new.long)
+IsRoomier old new = (old.registrations ≤ new.registrations) × (old.short ≤ new.short) × (old.long ≤ new.long) × (old.cleanups ≤ new.cleanups)
+
+-- the same, but for one place that registrations and cleanups share
+abbrev pub UsesEntry : Rooms → Rooms → Type 0
+UsesEntry old new = IsRoomier old (record new { registrations = new.registrations + 1; cleanups = new.cleanups + 1 })
+
+-- the same, but for one place of the links of this kind
+abbrev pub UsesLink : LinkKind → Rooms → Rooms → Type 0
+UsesLink Short old new = IsRoomier old (record new { short = new.short + 1 })
+UsesLink Long old new = IsRoomier old (record new { long = new.long + 1 })
+
+-- room for links is kept, and of the room for registrations and cleanups at least this much, if there was so much
+abbrev pub KeepsEntries : ℕ → Rooms → Rooms → Type 0
+KeepsEntries entries old new = IsRoomier (record old { registrations = min entries old.registrations; cleanups = min entries old.cleanups }) new
+
+-- an accepted call uses at most one place, and a refused one none
+abbrev pub Spends : {A : Type 0} → (Rooms → Rooms → Type 0) → Result A Refused → Rooms → Rooms → Type 0
+Spends Uses (Ok x) old new = Uses old new
+Spends Uses (Err r) old new = IsRoomier old new

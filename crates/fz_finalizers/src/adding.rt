@@ -5,6 +5,7 @@ ghost use Rattle.std.specs.FinMap.{get, len};
 ghost use Rattle.fz_finalizers.specs.Causes.{IsJudgedBy, IsJudgedOrLacks, add_causes};
 ghost use Rattle.fz_finalizers.specs.Follows.{Follows, AddCleanup, Cancel};
 ghost use Rattle.fz_table.specs.declared.limits.TheConstants.{MOST_ENTRIES};
+ghost use Rattle.fz_finalizers.specs.States.{IsRoomier, Spends, UsesEntry};
 ghost use Rattle.fz_finalizers.specs.Walks.{AreCleanups};
 
 use crate::cleanups::{Attached, Cleanup, Cleanups};
@@ -45,6 +46,7 @@ impl Finalizers {
         ensures number { IfOk result (λ number. number ≡ self.old.next_number) }
         ensures follows { OnOk result (Follows self.old.state (AddCleanup object cleanup) self.new.state) }
         ensures memory { IsTrue self.old.memory.whole → self.new.memory ≡ self.old.memory }
+        ensures room { Spends UsesEntry result self.old.rooms self.new.rooms }
     {
         check(&self.table, &self.cleanups, object)?;
         self.ready
@@ -67,6 +69,7 @@ impl Finalizers {
         ensures answer { result ≡ get self.old.cleanups number }
         ensures follows { Follows self.old.state (Cancel number) self.new.state }
         ensures memory { self.new.memory ≡ self.old.memory }
+        ensures room { IsRoomier self.old.rooms self.new.rooms }
     {
         self.cleanups.remove(number)
     }

@@ -78,6 +78,7 @@ fn take(cleanups: &mut Cleanups, number: u64) -> Pick
     ensures taken { (c : Attached) × (get cleanups.old.cleanups number ≡ Some c) × (result ≡ pick_of (number, c)) }
     ensures removed { cleanups.new.cleanups ≡ remove cleanups.old.cleanups number }
     ensures count { len cleanups.new.cleanups + 1 ≡ len cleanups.old.cleanups }
+    ensures room { cleanups.old.room ≤ cleanups.new.room }
 {
     let attached = cleanups.remove(number).unwrap();
     pick_of(number, attached)
@@ -98,6 +99,7 @@ pub(crate) fn queue_listed(
     ensures count { length queue.new.queue + len cleanups.new.cleanups ≡ length queue.old.queue + len cleanups.old.cleanups }
     ensures fewer { len cleanups.new.cleanups ≤ len cleanups.old.cleanups }
     ensures room { queue.old.room + len cleanups.new.cleanups ≤ queue.new.room + len cleanups.old.cleanups }
+    ensures places { cleanups.old.room ≤ cleanups.new.room }
 {
     for entry in listed {
         let pick = take(cleanups, entry.1);

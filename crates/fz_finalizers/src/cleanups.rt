@@ -93,6 +93,7 @@ impl Cleanups {
         ensures wanting { OnErr result (self.old.room ≡ 0) }
         ensures unchanged { OnErr result (self.new.cleanups ≡ self.old.cleanups) }
         ensures added { OnOk result (self.new.cleanups ≡ insert self.old.cleanups number attached) }
+        ensures room { self.old.room ≤ self.new.room + 1 }
     {
         let Ok(_) = self.entries.insert(number, attached) else {
             return Err(Refused::NoMemory);
@@ -105,6 +106,7 @@ impl Cleanups {
         ensures answer { result ≡ get self.old.cleanups number }
         ensures removed { self.new.cleanups ≡ remove self.old.cleanups number }
         ensures count { IfSome result (λ _. len self.new.cleanups + 1 ≡ len self.old.cleanups) }
+        ensures room { self.old.room ≤ self.new.room }
     {
         self.entries.swap_remove(&number)
     }

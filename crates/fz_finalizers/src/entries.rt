@@ -3,7 +3,7 @@
 ghost use Rattle.std.specs.Prelude.{◌≡◌, [], length, MatchOption, OnOk, OnErr, IsTrue, MatchResult};
 ghost use Rattle.fz_finalizers.specs.Causes.{IsJudgedBy, finish_causes};
 ghost use Rattle.fz_finalizers.specs.Follows.{Follows, Take, TakeFinished, Finish};
-ghost use Rattle.fz_finalizers.specs.States.{is_held, waiting};
+ghost use Rattle.fz_finalizers.specs.States.{is_held, waiting, IsRoomier};
 
 use crate::finalizers::Finalizers;
 use crate::refused::Refused;
@@ -12,7 +12,9 @@ use fz_model::Entry;
 impl Finalizers {
     /// Takes the first waiting entry. It is held until it is finished: its object and its client data stay roots.
     pub fn take(&mut self) -> Option<Entry>
-        ensures { MatchOption result ((waiting self.old.state ≡ []) × (self.new.state ≡ self.old.state)) (λ entry. Follows self.old.state (Take entry) self.new.state) }
+        ensures takes { MatchOption result ((waiting self.old.state ≡ []) × (self.new.state ≡ self.old.state)) (λ entry. Follows self.old.state (Take entry) self.new.state) }
+        ensures memory { self.new.memory ≡ self.old.memory }
+        ensures room { IsRoomier self.old.rooms self.new.rooms }
     {
         self.ready.take()
     }
@@ -23,6 +25,7 @@ impl Finalizers {
         ensures refused { OnErr result (self.new.state ≡ self.old.state) }
         ensures follows { OnOk result (Follows self.old.state (Finish entry.now) self.new.state) }
         ensures memory { self.new.memory ≡ self.old.memory }
+        ensures room { IsRoomier self.old.rooms self.new.rooms }
     {
         if !self.ready.finish(entry) {
             return Err(Refused::NotHeld);
@@ -32,7 +35,9 @@ impl Finalizers {
 
     /// Takes the first waiting entry and finishes it at once, for a finalizer that may never return. Its object and its client data are no longer roots.
     pub fn take_finished(&mut self) -> Option<Entry>
-        ensures { MatchOption result ((waiting self.old.state ≡ []) × (self.new.state ≡ self.old.state)) (λ entry. Follows self.old.state (TakeFinished entry) self.new.state) }
+        ensures takes { MatchOption result ((waiting self.old.state ≡ []) × (self.new.state ≡ self.old.state)) (λ entry. Follows self.old.state (TakeFinished entry) self.new.state) }
+        ensures memory { self.new.memory ≡ self.old.memory }
+        ensures room { IsRoomier self.old.rooms self.new.rooms }
     {
         self.ready.take_finished()
     }

@@ -7,6 +7,7 @@ ghost use Rattle.std.specs.Map.{keys_of};
 ghost use Rattle.fz_pass.specs.Keyed.{ephemeron_at, has_ephemeron, move_answer, of_kind};
 ghost use Rattle.fz_finalizers.specs.Causes.{IsJudgedBy, IsJudgedOrLacks, link_causes, move_causes};
 ghost use Rattle.fz_finalizers.specs.Follows.{Follows, Ephemeron, EndEphemeron, MoveEphemeron};
+ghost use Rattle.fz_finalizers.specs.States.{IsRoomier};
 
 use crate::finalizers::Finalizers;
 use crate::refused::Refused;
@@ -47,6 +48,7 @@ impl Finalizers {
         ensures answer { IfOk result (λ answer. answer ≡ (if has_ephemeron self.old.ephemerons word then LinkAnswer.Duplicate else LinkAnswer.Success)) }
         ensures follows { OnOk result (Follows self.old.state (Ephemeron kind word key) self.new.state) }
         ensures memory { self.new.memory ≡ self.old.memory }
+        ensures room { IsRoomier self.old.rooms self.new.rooms }
     {
         check(&self.ephemerons, kind, word, key)?;
         self.ephemerons
@@ -59,6 +61,7 @@ impl Finalizers {
         ensures answer { result ≡ ephemeron_at self.old.ephemerons word }
         ensures follows { Follows self.old.state (EndEphemeron word) self.new.state }
         ensures memory { self.new.memory ≡ self.old.memory }
+        ensures room { IsRoomier self.old.rooms self.new.rooms }
     {
         self.ephemerons.remove(word)
     }
@@ -73,6 +76,7 @@ impl Finalizers {
         ensures answer { IfOk result (λ answer. answer ≡ move_answer self.old.ephemerons word to) }
         ensures follows { OnOk result (Follows self.old.state (MoveEphemeron word to) self.new.state) }
         ensures memory { self.new.memory ≡ self.old.memory }
+        ensures room { IsRoomier self.old.rooms self.new.rooms }
     {
         if to == 0 {
             return Err(Refused::Zero);

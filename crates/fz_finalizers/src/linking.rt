@@ -78,6 +78,7 @@ pub(crate) fn link(
     ensures kept { vec_capacity moves.old ≤ vec_capacity moves.new }
     ensures room { len links.new.links ≤ 2 * vec_capacity moves.new }
     ensures roomier { links.old.room ≤ links.new.room + 1 }
+    ensures spared { OnErr result (links.old.room ≤ links.new.room) }
 {
     check(links, word, target)?;
     make_room(links, moves, word)?;

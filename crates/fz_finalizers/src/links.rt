@@ -5,7 +5,7 @@ ghost use Rattle.std.specs.FinMap.{get, len, contains_key};
 ghost use Rattle.fz_model.specs.Steps.{move_answer};
 ghost use Rattle.fz_finalizers.specs.Causes.{IsJudgedBy, IsJudgedOrLacks, link_causes, move_causes};
 ghost use Rattle.fz_finalizers.specs.Follows.{Follows, Link, Unlink, Move};
-ghost use Rattle.fz_finalizers.specs.States.{links_of, room_of, IsRoomier};
+ghost use Rattle.fz_finalizers.specs.States.{links_of, room_of, IsRoomier, Spends, UsesLink};
 
 use crate::finalizers::Finalizers;
 use crate::linking;
@@ -26,6 +26,7 @@ impl Finalizers {
         ensures answer { IfOk result (λ answer. answer ≡ (if contains_key (links_of self.old.state kind) word then LinkAnswer.Duplicate else LinkAnswer.Success)) }
         ensures follows { OnOk result (Follows self.old.state (Link kind word target) self.new.state) }
         ensures memory { self.new.memory ≡ self.old.memory }
+        ensures room { Spends (UsesLink kind) result self.old.rooms self.new.rooms }
     {
         match kind {
             LinkKind::Short => linking::link(&mut self.short, &mut self.moves, word, target),
@@ -48,6 +49,7 @@ impl Finalizers {
         ensures answer { result ≡ contains_key (links_of self.old.state kind) word }
         ensures follows { Follows self.old.state (Unlink kind word) self.new.state }
         ensures memory { self.new.memory ≡ self.old.memory }
+        ensures room { IsRoomier self.old.rooms self.new.rooms }
     {
         match kind {
             LinkKind::Short => self.short.unregister(word),

@@ -10,7 +10,7 @@ ghost use Rattle.std.specs.FinMap.{empty};
 ghost use Rattle.fz_finalizers.specs.Cleanups.{is_due};
 ghost use Rattle.fz_finalizers.specs.Follows.{Cleans, Follows, Pass, QueueAll, next_pass};
 ghost use Rattle.fz_finalizers.specs.Passed.{CleansAll, DecidesFor, DecidesWholeFor, PassesFor, PassesFound, PassesWhole};
-ghost use Rattle.fz_finalizers.specs.States.{AreFlags, HasRooms, IsRoomier, KeepsWindow, limited};
+ghost use Rattle.fz_finalizers.specs.States.{AreFlags, HasRooms, IsRoomier, KeepsEntries, KeepsWindow, limited};
 
 use crate::finalizers::Finalizers;
 use crate::linking::reserve_moves;
@@ -38,8 +38,9 @@ fn limited(entries: usize) -> usize
 }
 
 impl Finalizers {
-    /// Reserves room for further registrations, and for further links of both kinds: for at most 2^32 of each. `shrink` frees what is left of it.
-    /// Takes time proportional to the room.
+    /// Reserves room for further registrations, and for further links of both kinds: for at most 2^32 of each. A registration or a cleanup uses at most one
+    /// place, of those that both share, and a link at most one of its kind. A refused call uses none, and neither does any other call. Only `shrink` and
+    /// `forget` give room back. Takes time proportional to the room.
     ///
     /// Fails with `NoMemory` if an allocation fails.
     pub fn reserve(
@@ -190,6 +191,7 @@ impl Finalizers {
     fn clean<H: Host>(&mut self, pass: u64, when: LinkKind, host: &H)
         ensures cleaned { Cleans pass (is_due when (H.marked host.now)) self.old.state self.new.state }
         ensures memory { KeepsWindow self.old.memory self.new.memory }
+        ensures room { IsRoomier self.old.rooms self.new.rooms }
     {
         self.ready.clean(pass, when, host, &mut self.cleanups);
     }
@@ -258,6 +260,8 @@ impl Finalizers {
         ensures queued { QueuesAll (length self.old.queue) self.old.registrations (contains self.old.late) self.old.queue self.new.queue }
         ensures follows { Follows self.old.state QueueAll self.new.state }
         ensures count { length self.new.queue ≡ length self.old.queue + result }
+        ensures memory { KeepsWindow self.old.memory self.new.memory }
+        ensures room { KeepsEntries 0 self.old.rooms self.new.rooms }
     {
         let before = self.ready.queued();
         self.ready.queue_all(&mut self.table);
@@ -270,6 +274,8 @@ impl Finalizers {
         ensures queued { CleansAll self.old.state self.new.state }
         ensures none { self.new.cleanups ≡ empty }
         ensures count { length self.new.queue ≡ length self.old.queue + result }
+        ensures memory { KeepsWindow self.old.memory self.new.memory }
+        ensures room { IsRoomier self.old.rooms self.new.rooms }
     {
         let before = self.ready.queued();
         self.clean(0, LinkKind::Short, &Nothing);

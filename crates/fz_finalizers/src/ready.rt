@@ -185,6 +185,7 @@ impl Ready {
     pub(crate) fn shrink(&mut self, most: usize)
         requires { most ≤ self.old.room }
         ensures same { HasSameEntries self.old self.new }
+        ensures memory { IsTrue self.old.memory.whole → self.new.memory ≡ self.old.memory }
         ensures room { most ≤ self.new.room }
     {
         self.reuse();
@@ -246,6 +247,7 @@ impl Ready {
         ensures memory { KeepsWindow self.old.memory self.new.memory }
         ensures count { length self.new.queue + len cleanups.new.cleanups ≡ length self.old.queue + len cleanups.old.cleanups }
         ensures room { self.old.room + len cleanups.new.cleanups ≤ self.new.room + len cleanups.old.cleanups }
+        ensures places { cleanups.old.room ≤ cleanups.new.room }
     {
         rank_due(host, when, cleanups, &mut self.list);
         queue_listed(&mut self.queue, pass, self.list.as_slice(), cleanups);
@@ -258,6 +260,7 @@ impl Ready {
         ensures queued { QueuesTable table.old.content table.new.late self.old.queue self.new.queue }
         ensures taken { self.new.taken ≡ self.old.taken }
         ensures held { self.new.held ≡ self.old.held }
+        ensures memory { KeepsWindow self.old.memory self.new.memory }
         ensures count { length self.new.queue ≡ length self.old.queue + len table.old.registrations }
         ensures room { self.old.room ≤ self.new.room + len table.old.registrations }
         ensures table { table.new.registered ≡ record table.old.registered { registrations = empty } }
@@ -272,6 +275,7 @@ impl Ready {
         ensures queue { self.new.queue ≡ self.old.queue ++ entry_of pass (length self.old.queue) pick ∷ [] }
         ensures taken { self.new.taken ≡ self.old.taken }
         ensures held { self.new.held ≡ self.old.held }
+        ensures memory { KeepsWindow self.old.memory self.new.memory }
         ensures room { self.old.room ≤ self.new.room + 1 }
     {
         self.queue.push(pass, pick);
@@ -281,6 +285,7 @@ impl Ready {
     #[inline(always)]
     pub(crate) fn take(&mut self) -> Option<Entry>
         ensures takes { Takes result self.old self.new }
+        ensures memory { self.new.memory ≡ self.old.memory }
         ensures room { self.old.room ≤ self.new.room }
     {
         if self.taken >= self.queue.queued() {
@@ -294,6 +299,7 @@ impl Ready {
     /// Takes the next entry of the queue, and doesn't hold it.
     pub(crate) fn take_finished(&mut self) -> Option<Entry>
         ensures takes { TakesFinished result self.old self.new }
+        ensures memory { self.new.memory ≡ self.old.memory }
         ensures room { self.old.room ≤ self.new.room }
     {
         let number = self.taken;

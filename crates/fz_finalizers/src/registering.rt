@@ -78,6 +78,7 @@ pub(crate) fn register(
     ensures kept { ready.old.room ≤ ready.new.room }
     ensures room { len table.new.registrations + cleanups ≤ ready.new.room }
     ensures roomier { table.old.room ≤ table.new.room + 1 }
+    ensures spared { OnErr result (table.old.room ≤ table.new.room) }
 {
     check(table, object)?;
     make_room(table, cleanups, ready, object)?;

@@ -5,7 +5,7 @@ ghost use Rattle.std.specs.FinMap.{get, len};
 ghost use Rattle.fz_model.specs.Steps.{old_of};
 ghost use Rattle.fz_finalizers.specs.Causes.{IsJudgedBy, IsJudgedOrLacks, register_causes};
 ghost use Rattle.fz_finalizers.specs.Follows.{Follows, Register, Unregister};
-ghost use Rattle.fz_finalizers.specs.States.{kind_at};
+ghost use Rattle.fz_finalizers.specs.States.{kind_at, IsRoomier, Spends, UsesEntry};
 
 use crate::finalizers::Finalizers;
 use crate::kinds::{Finalizer, Kind};
@@ -32,6 +32,7 @@ impl Finalizers {
         ensures replaced { IfOk result (λ answer. answer.1 ≡ old_of self.old.registrations object) }
         ensures follows { OnOk result (Follows self.old.state (Register object finalizer) self.new.state) }
         ensures memory { IsTrue self.old.memory.whole → self.new.memory ≡ self.old.memory }
+        ensures room { Spends UsesEntry result self.old.rooms self.new.rooms }
     {
         let cleanups = self.cleanups.len();
         registering::register(
@@ -55,6 +56,7 @@ impl Finalizers {
         ensures answer { result ≡ old_of self.old.registrations object }
         ensures follows { Follows self.old.state (Unregister object) self.new.state }
         ensures memory { self.new.memory ≡ self.old.memory }
+        ensures room { IsRoomier self.old.rooms self.new.rooms }
     {
         self.table.remove(object)
     }

@@ -1,6 +1,6 @@
 //! Giving back memory.
 
-ghost use Rattle.std.specs.Prelude.{◌≡◌, ◌≤◌};
+ghost use Rattle.std.specs.Prelude.{◌≡◌, ◌≤◌, IsTrue};
 ghost use Rattle.fz_finalizers.specs.States.{KeepsTables};
 
 use crate::finalizers::Finalizers;
@@ -11,6 +11,7 @@ impl Finalizers {
     pub fn shrink(&mut self)
         ensures state { self.new.state ≡ self.old.state }
         ensures order { KeepsTables self.old.order self.new.order }
+        ensures memory { IsTrue self.old.memory.whole → self.new.memory ≡ self.old.memory }
     {
         self.table.shrink();
         self.short.shrink();

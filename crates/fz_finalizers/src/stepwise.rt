@@ -1,10 +1,11 @@
 //! Passes that are carried out by individual calls.
 
-ghost use Rattle.std.specs.Prelude.{◌≡◌, ◌≤◌, ◌<◌, ◌+◌, is_some};
+ghost use Rattle.std.specs.Prelude.{◌≡◌, ◌≤◌, ◌<◌, ◌+◌, is_some, IsTrue};
 ghost use Rattle.std.specs.FinMap.{get};
 ghost use Rattle.fz_pass.specs.All.{unknown};
 ghost use Rattle.fz_pass.specs.Picking.{pick_of};
 ghost use Rattle.fz_finalizers.specs.Follows.{Follows, Begin, Queue, QueueCleanup, next_pass};
+ghost use Rattle.fz_finalizers.specs.States.{IsRoomier, KeepsWindow};
 
 use crate::cleaning;
 use crate::finalizers::Finalizers;
@@ -28,6 +29,8 @@ impl Finalizers {
     pub fn begin_pass(&mut self) -> u64
         ensures number { result ≡ next_pass self.old.passes }
         ensures follows { Follows self.old.state Begin self.new.state }
+        ensures memory { IsTrue self.old.memory.whole → self.new.memory ≡ self.old.memory }
+        ensures room { IsRoomier self.old.rooms self.new.rooms }
     {
         self.ready.reuse();
         self.passes = self.passes.saturating_add(1);
@@ -39,6 +42,8 @@ impl Finalizers {
     pub fn queue(&mut self, object: Addr) -> bool
         ensures answer { result ≡ is_some (get self.old.registrations object) }
         ensures follows { Follows self.old.state (Queue object) self.new.state }
+        ensures memory { KeepsWindow self.old.memory self.new.memory }
+        ensures room { IsRoomier self.old.rooms self.new.rooms }
     {
         let Some(registration) = self.table.take(object) else {
             return false;
@@ -51,6 +56,8 @@ impl Finalizers {
     pub fn queue_cleanup(&mut self, number: u64) -> bool
         ensures answer { result ≡ is_some (get self.old.cleanups number) }
         ensures follows { Follows self.old.state (QueueCleanup number) self.new.state }
+        ensures memory { KeepsWindow self.old.memory self.new.memory }
+        ensures room { IsRoomier self.old.rooms self.new.rooms }
     {
         let Some(attached) = self.cleanups.remove(number) else {
             return false;

@@ -1,11 +1,12 @@
 //! Finalizers whose host takes all entries of a pass at once, and says when finished ones are forgotten.
 
-ghost use Rattle.std.specs.Prelude.{◌≡◌, ◌≤◌, ◌<◌, ◌+◌, ◌*◌, ◌⊎◌, true, drop, length, slice_get, IfOk, IfErr, IfSome};
+ghost use Rattle.std.specs.Prelude.{◌≡◌, ◌≤◌, ◌<◌, ◌+◌, ◌-◌, ◌*◌, ◌⊎◌, true, drop, length, slice_get, IfOk, IfErr, IfSome};
+ghost use Rattle.std.specs.FinMap.{len};
 ghost use Rattle.fz_model.specs.declared.answers.Entry.{Entry};
 ghost use Rattle.fz_model.specs.declared.limits.TheConstants.{COUNT_LIMIT};
 ghost use Rattle.fz_finalizers.specs.Follows.{Follows, TakeAll};
 ghost use Rattle.fz_finalizers.specs.Queue.{IsFoundIn, IsFirstHeldFrom};
-ghost use Rattle.fz_finalizers.specs.States.{opening, unfinished, waiting};
+ghost use Rattle.fz_finalizers.specs.States.{opening, unfinished, waiting, IsRoomier, KeepsEntries};
 
 use crate::finalizers::Finalizers;
 use crate::refused::Refused;
@@ -29,6 +30,7 @@ impl Finalizers {
         ensures follows { Follows self.old.state (TakeAll (waiting self.old.state)) self.new.state }
         ensures count { result ≡ length (waiting self.old.state) }
         ensures memory { self.new.memory ≡ self.old.memory }
+        ensures room { IsRoomier self.old.rooms self.new.rooms }
     {
         self.ready.take_all()
     }
@@ -42,6 +44,7 @@ impl Finalizers {
         ensures forgotten { (self.new.memory.forgotten ≡ self.old.memory.forgotten) ⊎ (self.new.memory.forgotten ≡ self.old.taken) }
         ensures few { 16 * self.new.memory.remembered ≤ 17 * length (unfinished self.old.state) }
         ensures freed { result + self.new.memory.remembered ≡ self.old.memory.remembered }
+        ensures room { KeepsEntries (room - (len self.old.registrations + len self.old.cleanups)) self.old.rooms self.new.rooms }
     {
         let wanted = self.table.len() + self.cleanups.len();
         self.ready.forget_to(room.max(wanted))

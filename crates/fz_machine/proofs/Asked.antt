@@ -17,7 +17,7 @@ use Rattle.fz_machine.specs.declared.phase.Sweep.{Sweep}
 use Rattle.fz_machine.specs.declared.phase.Sweep.TheVariants as sweeps
 use Rattle.fz_machine.specs.declared.question.Ask.{Ask}
 use Rattle.fz_machine.specs.declared.question.Question.{Question}
-use Rattle.fz_machine.specs.Going.{AreAlike, AreFewer, AreNoMore, AreTables, AsksNone, Changes, HasAsk, HasRoom, HasRoomOff, HaveRoom, IsInOrder, IsSameRoom, IsTable, Lacks, asked_in, ephemerons_in, going, is_by, left_in, noted_by, questions_by, questions_in, questions_of, questions_to_come, swept_in, told_in}
+use Rattle.fz_machine.specs.Going.{AreAlike, AreFewer, AreNoMore, AreTables, AsksNone, Changes, HasAsk, HasRoom, HasRoomOff, HasRoomOffIn, HaveRoom, IsInOrder, IsSameRoom, IsTable, Lacks, asked_in, ephemerons_in, going, is_by, left_in, noted_by, questions_by, questions_in, questions_of, questions_to_come, swept_in, told_in}
 use Rattle.fz_machine.specs.Machines.{Answers, AsksItems, AsksRegions, GoesTo, Heard, KeepsRegions, Machine, Tells, Words, going_of, heard_by, is_noted, questions_left}
 use Rattle.fz_machine.specs.Phases.{asks, settles, settles_in, swept, sweep_ask}
 use Rattle.fz_machine.specs.Regions.{Regions as Table, AreNoted, IsOfSweep, IsUntold, index_of, no_regions, place_in, table_at}
@@ -399,7 +399,7 @@ module _ (f g : View) (walk new : Walk) (tables : List Table) (was : Option Phas
       let same = ap (λ (k : Going). k.finalizers) heard in
       record {
         room = rooms_as (settles_in was) g.state walk new room (rooms_of (settles_in was) (steps phase answers (going f walk [])).finalizers g.state walk same (steps_rooms (settles_in was) walk phase answers (going f walk []) order.room));
-        room_off = subst (λ (o : Option Phase). HasRoomOff (settles_in o) new) (sym at) room_off;
+        room_off = subst (λ (o : Option Phase). HasRoomOffIn o new) (sym at) room_off;
         tables = tables_less f.state g.state tables was (λ sweep n is. steps_less f.state phase answers (going f walk []) (less_same f.state) sweep n (subst (λ (s : State). IsOfSweep sweep s n) same is)) order.tables;
       }
 

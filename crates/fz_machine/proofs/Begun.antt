@@ -33,15 +33,15 @@ use Rattle.fz_machine.proofs.Stated.{tabled}
 no_earlier : (number from : ℕ) (on : Bool) → (number < from → IsTrue on) → on ≡ false → from ≤ number
 no_earlier number from on marked off = ⊎_elim (λ (lt : number < from). absurd (both_ways on off (marked lt))) (λ (ge : from ≤ number). ge) (cases_lt number from)
 
-pub record HasBegun (word_of : ℕ → Option ℕ) (b : State) (before : Graph) : Type 0 where
-  pub may : MayBegin word_of b before
+pub record HasBegun (word_of : ℕ → Option ℕ) (value : Map Object → ℕ → Option ℕ) (b : State) (before : Graph) : Type 0 where
+  pub may : MayBegin word_of value b before
   pub open may use *
   pub flags : AreFlags b.registrations b.late
   pub single : AreSingle b
   pub from : ℕ
   pub seen : AreOldMarked from b before
 
-module _ (E : Type 0) (word_of : ℕ → Option ℕ) (value : Map Object → ℕ → Option ℕ) (b : State) (before : Graph) (begin : HasBegun word_of b before) where
+module _ (E : Type 0) (word_of : ℕ → Option ℕ) (value : Map Object → ℕ → Option ℕ) (b : State) (before : Graph) (begin : HasBegun word_of value b before) where
   abbrev begun : Map Object
   begun = cleared_links E word_of value b before
 

@@ -5,12 +5,8 @@ use Rattle.std.specs.List.Sorted.{IsPermutation}
 use Rattle.fz_machine.specs.declared.item.Item.{Item}
 use Rattle.fz_machine.specs.declared.phase.Phase.{Phase}
 use Rattle.fz_machine.specs.declared.phase.Phase.TheVariants.{Keys, KeysAgain, Holders, Values}
-use Rattle.fz_machine.specs.Off.{IsIndexed, PutOff, TellsOff, count_off, put_off, stuck_with, told_of}
+use Rattle.fz_machine.specs.Off.{IsIndexed, PutOff, TellsOff, all_off, count_off, put_off, stuck_with, told_of}
 use Rattle.fz_machine.specs.Phases.{keeps, settles}
-
--- those that were told come first, and those that were put off last come last
-abbrev pub all_off : PutOff → List Item
-all_off off = off.told ++ (off.index ++ off.stuck)
 
 -- another is put off
 pub all_with : (off : PutOff) (item : Item) → all_off (stuck_with off item) ≡ all_off off ++ item ∷ []

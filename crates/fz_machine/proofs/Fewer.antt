@@ -1,5 +1,5 @@
 -- Each answer that is heard leaves fewer to come.
-use Rattle.std.proofs.Common.{◌≡◌, ◌≤◌, ◌<◌, ◌+◌, ◌-◌, ◌*◌, ◌&&◌, ◌++◌, ◌∷◌, ◌∙◌, [], ℕ, zero, suc, Bool, true, false, not, cond, refl, slice_get, filter, get_or, nat_le, List, length, map, Option, Some, None, inl, inr, sym, ap, subst, is_some, length-append, add-mul, mul-add, mul-suc, arith}
+use Rattle.std.proofs.Common.{◌≡◌, ◌≤◌, ◌<◌, ◌+◌, ◌-◌, ◌*◌, ◌&&◌, ◌++◌, ◌∷◌, ◌∙◌, [], ℕ, zero, suc, Bool, true, false, not, cond, refl, filter, get_or, nat_le, List, length, map, Option, Some, None, inl, inr, sym, ap, subst, is_some, length-append, add-mul, mul-add, arith}
 use Rattle.std.proofs.lemmas.Bool.{and_parts, true≢false}
 use Rattle.std.proofs.lemmas.List.{length-map}
 use Rattle.std.proofs.lemmas.Option.{none-some}
@@ -28,16 +28,16 @@ use Rattle.fz_machine.specs.declared.phase.Phase.TheVariants.{Keys, KeysAgain, H
 use Rattle.fz_machine.specs.declared.phase.Sweep.{Sweep}
 use Rattle.fz_machine.specs.declared.phase.Sweep.TheVariants as sweeps
 use Rattle.fz_machine.specs.Heard.{Begun, Goes, Hears, Learns, Meanwhile, PassesEnd, Told}
-use Rattle.fz_machine.specs.Items.{AreCleanups, AreEntriesOf, AreEphemerons, AreLinks, AreObjects, of_cleanup, of_link, of_stored, target_of, word_of}
+use Rattle.fz_machine.specs.Items.{AreCleanups, AreEntriesOf, AreEphemerons, AreLinks, AreObjects, is_still, of_cleanup, of_link, of_stored, target_of, word_of}
 use Rattle.fz_machine.specs.Machines as machines
-use Rattle.fz_machine.specs.Machines.{Answers, IsWork, Machine, Tells, TellsIn, Words, going_of, heard_by}
-use Rattle.fz_machine.specs.Off.{PutOff, TellsOff, looked_at, looking, looks_again, none_off, put_off, stuck_with}
+use Rattle.fz_machine.specs.Machines.{IsWork, Machine, Tells, TellsIn, Words, going_of, heard_by}
+use Rattle.fz_machine.specs.Off.{PutOff, TellsOff, all_off, looked_at, looking, looks_again, none_off, put_off, stuck_with}
 use Rattle.fz_machine.specs.Phases.{Lists, after, aside_in, asks, behind, given, keeps, next_phase, off_in, swept}
 use Rattle.fz_machine.specs.Regions.{is_marked, is_unmarked}
 use Rattle.fz_machine.specs.Steps.{Asks, Ends, Going, GoesOn, Sweeps, Turns, skip, skipped, steps}
 use Rattle.fz_machine.proofs.Phasing.{kept_on}
 use Rattle.fz_machine.proofs.Due.{HasOf, both_kinds, fewer_of}
-use Rattle.fz_machine.proofs.Delayed.{all_off, all_with, tells_moves}
+use Rattle.fz_machine.proofs.Delayed.{all_with, tells_moves}
 use Rattle.fz_machine.proofs.Throughout.{heard_answers, heard_words}
 use Rattle.fz_machine.proofs.Within.{IsWithin, still}
 use Rattle.fz_machine.proofs.Working.{work_apart}
@@ -47,89 +47,114 @@ at s kept left aside off told = record { finalizers = s; kept = kept; left = lef
 
 -- ---- rounds over ephemerons
 
--- how often rounds may go over so many. In a round about all, all but one are asked about twice, and that one three times; then the others are told, and are
--- asked about twice in a round of their own
-abbrev most : ℕ → ℕ
-most zero = 0
-most (suc n) = 4 * n + 3 + most n
+-- how often an ephemeron that is put off at a moment may be asked about later, beside what `most` has for those that are let through
+abbrev weight : Moment → ℕ
+weight First = 9
+weight Led = 5
+weight Picked = 3
+weight Last = 1
 
-most_more : (n k : ℕ) → most n ≤ most (k + n)
-most_more n zero = let is : 0 + n ≡ n = omega arith in let same = ap most is in omega (arith, same)
-most_more n (suc k) =
-    let few = most_more n k in
+-- how many questions may follow those about the keys and the holders of a round after which so many ephemerons are put off: each takes its weight; and one that is let through takes three, and
+-- then the others are told, and are asked about twice in a round of their own, and twice in a round about all
+abbrev most : ℕ → ℕ → ℕ
+most w zero = 0
+most w (suc n) = w + 4 * n + 3 + most w n
+
+most_more : (w n k : ℕ) → most w n ≤ most w (k + n)
+most_more w n zero = let is : 0 + n ≡ n = omega arith in let same = ap (most w) is in omega (arith, same)
+most_more w n (suc k) =
+    let few = most_more w n k in
     let is : suc k + n ≡ suc (k + n) = omega arith in
-    let same : most (suc k + n) ≡ 4 * (k + n) + 3 + most (k + n) = ap most is in
+    let same : most w (suc k + n) ≡ w + 4 * (k + n) + 3 + most w (k + n) = ap (most w) is in
     omega (arith, few, same)
 
-most_le : (n m : ℕ) → n ≤ m → most n ≤ most m
-most_le n m le = let more = most_more n (m - n) in let same : m - n + n ≡ m = omega (arith, le) in subst (λ k. most n ≤ most k) same more
+most_le : (w n m : ℕ) → n ≤ m → most w n ≤ most w m
+most_le w n m le = let more = most_more w n (m - n) in let same : m - n + n ≡ m = omega (arith, le) in subst (λ k. most w n ≤ most w k) same more
+
+-- two more questions about each
+two_more : (v w n : ℕ) → v ≡ 2 + w → most v n ≡ 2 * n + most w n
+two_more v w zero is = refl
+two_more v w (suc n) is = let before = two_more v w n is in omega (arith, before, is)
+
+-- what the phases behind the last moment take
+last_few : (n : ℕ) → 4 * n ≤ most 1 n
+last_few zero = omega arith
+last_few (suc n) = omega arith
 
 -- as a product
-most_is : (n : ℕ) → 4 * most n ≡ 4 * n * (2 * n + 1)
-most_is zero = refl
-most_is (suc n) =
-    let before = most_is n in
+square : (n : ℕ) → most 0 n ≡ n * (2 * n + 1)
+square zero = refl
+square (suc n) =
+    let before = square n in
+    let next : suc n ≡ n + 1 = omega arith in
     let more : 2 * suc n + 1 ≡ 2 * n + 1 + 2 = omega arith in
-    let one : 4 * suc n * (2 * suc n + 1) ≡ 4 * n * (2 * suc n + 1) + 4 * (2 * suc n + 1) = ap (λ k. k * (2 * suc n + 1)) (mul-suc 4 n) ∙ add-mul (4 * n) 4 (2 * suc n + 1) in
-    let two : 4 * n * (2 * suc n + 1) ≡ 4 * n * (2 * n + 1) + 4 * n * 2 = ap (λ k. 4 * n * k) more ∙ mul-add (4 * n) (2 * n + 1) 2 in
+    let one : suc n * (2 * suc n + 1) ≡ n * (2 * suc n + 1) + 1 * (2 * suc n + 1) = ap (λ k. k * (2 * suc n + 1)) next ∙ add-mul n 1 (2 * suc n + 1) in
+    let two : n * (2 * suc n + 1) ≡ n * (2 * n + 1) + n * 2 = ap (λ k. n * k) more ∙ mul-add n (2 * n + 1) 2 in
     omega (arith, before, one, two)
 
--- what may follow once a value was asked about: those that wait are told, and then all are looked at
-abbrev most_told : ℕ → ℕ
-most_told n = 2 * n + most n
+eleven : (n : ℕ) → most 11 n ≡ 11 * n + most 0 n
+eleven zero = refl
+eleven (suc n) = let before = eleven n in omega (arith, before)
 
-told_more : (n k : ℕ) → k + most_told n ≤ most_told (k + n)
-told_more n zero = let is : 0 + n ≡ n = omega arith in let same = ap most_told is in omega (arith, same)
-told_more n (suc k) =
-    let few = told_more n k in
+most_is : (n : ℕ) → most 11 n ≡ 11 * n + n * (2 * n + 1)
+most_is n = let all = eleven n in let product = square n in omega (arith, all, product)
+
+-- what may follow once a value was asked about: those that wait are told, and then all are looked at
+abbrev most_told : ℕ → ℕ → ℕ
+most_told w n = 4 * n + most w n
+
+told_more : (w n k : ℕ) → k + most_told w n ≤ most_told w (k + n)
+told_more w n zero = let is : 0 + n ≡ n = omega arith in let same = ap (most w) is in omega (arith, same)
+told_more w n (suc k) =
+    let few = told_more w n k in
     let is : suc k + n ≡ suc (k + n) = omega arith in
-    let same : most (suc k + n) ≡ 4 * (k + n) + 3 + most (k + n) = ap most is in
+    let same : most w (suc k + n) ≡ w + 4 * (k + n) + 3 + most w (k + n) = ap (most w) is in
     omega (arith, few, same)
 
 -- what may follow the questions about keys and holders in a round, by how many were told, whether a value may have been marked, and how many wait
-abbrev to_follow : ℕ → Bool → ℕ → ℕ
-to_follow zero false zero = 0
-to_follow zero false (suc n) = most_told n + 1
-to_follow zero true n = most n
-to_follow (suc told) again n = most_told n
+abbrev to_follow : ℕ → ℕ → Bool → ℕ → ℕ
+to_follow w zero false n = most w n
+to_follow w zero true n = 2 * n + most w n
+to_follow w (suc told) again n = most_told w n
 
--- a round about all
-all_follow : (n : ℕ) → 2 * n + to_follow 0 false n ≤ most n
-all_follow zero = omega arith
-all_follow (suc n) = omega arith
-
-few_follow : (again : Bool) (n : ℕ) → to_follow 0 again n ≤ most n
-few_follow false n = let all = all_follow n in omega (arith, all)
-few_follow true n = omega arith
+few_follow : (w : ℕ) (again : Bool) (n : ℕ) → to_follow w 0 again n ≤ 2 * n + most w n
+few_follow w false n = omega arith
+few_follow w true n = omega arith
 
 -- what may follow while values are asked about, by how many are left, and put off, and told
-abbrev values_to_come : ℕ → ℕ → ℕ → Bool → ℕ
-values_to_come (suc left) rows told again = suc left + most_told rows
-values_to_come zero rows (suc told) again = most_told rows
-values_to_come zero rows zero true = most rows
-values_to_come zero rows zero false = 0
+abbrev values_to_come : ℕ → ℕ → ℕ → ℕ → Bool → ℕ
+values_to_come w (suc left) rows told again = suc left + most_told w rows
+values_to_come w zero rows (suc told) again = most_told w rows
+values_to_come w zero rows zero true = 2 * rows + most w rows
+values_to_come w zero rows zero false = most w rows
 
-values_less : (left rows told : ℕ) (again : Bool) → values_to_come left rows told again + 1 ≤ suc left + most_told rows
-values_less (suc left) rows told again = omega arith
-values_less zero rows (suc told) again = omega arith
-values_less zero rows zero true = omega arith
-values_less zero rows zero false = omega arith
+values_less : (w left rows told : ℕ) (again : Bool) → values_to_come w left rows told again + 1 ≤ suc left + most_told w rows
+values_less w (suc left) rows told again = omega arith
+values_less w zero rows (suc told) again = omega arith
+values_less w zero rows zero true = omega arith
+values_less w zero rows zero false = omega arith
 
-values_begin : (left rows told : ℕ) (again : Bool) (n : ℕ) → n ≡ left + rows → values_to_come left rows told again ≤ to_follow told again n
-values_begin zero rows (suc told) again n is = let all : n ≡ rows = omega (arith, is) in let same = ap most all in omega (arith, all, same)
-values_begin zero rows zero true n is = let all : n ≡ rows = omega (arith, is) in let same = ap most all in omega (arith, same)
-values_begin zero rows zero false n is = omega arith
-values_begin (suc left) rows (suc told) again n is = let more = told_more rows (suc left) in let same = ap most_told is in omega (arith, more, same)
-values_begin (suc left) rows zero again zero is = absurd (omega (arith, is))
-values_begin (suc left) rows zero true (suc n) is =
-    let more = told_more rows left in
+-- at the end of the rounds
+values_end : (w rows told : ℕ) (again : Bool) → most w rows ≤ values_to_come w 0 rows told again
+values_end w rows (suc told) again = omega arith
+values_end w rows zero true = omega arith
+values_end w rows zero false = omega arith
+
+values_begin : (w left rows told : ℕ) (again : Bool) (n : ℕ) → n ≡ left + rows → values_to_come w left rows told again ≤ to_follow w told again n
+values_begin w zero rows (suc told) again n is = let all : n ≡ rows = omega (arith, is) in let same = ap (most w) all in omega (arith, all, same)
+values_begin w zero rows zero true n is = let all : n ≡ rows = omega (arith, is) in let same = ap (most w) all in omega (arith, all, same)
+values_begin w zero rows zero false n is = let all : n ≡ rows = omega (arith, is) in let same = ap (most w) all in omega (arith, all, same)
+values_begin w (suc left) rows (suc told) again n is = let more = told_more w rows (suc left) in let same = ap (most w) is in omega (arith, more, same, is)
+values_begin w (suc left) rows zero again zero is = absurd (omega (arith, is))
+values_begin w (suc left) rows zero true (suc n) is =
+    let more = told_more w rows left in
     let less : n ≡ left + rows = omega (arith, is) in
-    let same = ap most less in
+    let same = ap (most w) less in
     omega (arith, more, less, same)
-values_begin (suc left) rows zero false (suc n) is =
-    let more = told_more rows left in
+values_begin w (suc left) rows zero false (suc n) is =
+    let more = told_more w rows left in
     let less : n ≡ left + rows = omega (arith, is) in
-    let same = ap most less in
+    let same = ap (most w) less in
     omega (arith, more, less, same)
 
 -- how many are put off, how many of them were told, and whether a value may have been marked
@@ -142,11 +167,11 @@ abbrev size_of : PutOff → Size
 size_of off = record { rows = length (all_off off); told = length off.told; again = off.again }
 
 -- what may follow while keys and holders are asked about, by how many are kept, left, and put off
-abbrev keys_to_come : ℕ → ℕ → Size → ℕ
-keys_to_come kept left off = 2 * left + kept + to_follow off.told off.again (kept + left + off.rows)
+abbrev keys_to_come : ℕ → ℕ → ℕ → Size → ℕ
+keys_to_come w kept left off = 2 * left + kept + to_follow w off.told off.again (kept + left + off.rows)
 
-abbrev holders_to_come : ℕ → ℕ → Size → ℕ
-holders_to_come kept left off = left + to_follow off.told off.again (kept + left + off.rows)
+abbrev holders_to_come : ℕ → ℕ → ℕ → Size → ℕ
+holders_to_come w kept left off = left + to_follow w off.told off.again (kept + left + off.rows)
 
 -- one more if it is so
 abbrev one_if : Bool → ℕ → ℕ
@@ -156,9 +181,9 @@ one_if b n = cond b (n + 1) n
 rows_with : (off : PutOff) (item : Item) → length (all_off (stuck_with off item)) ≡ length (all_off off) + 1
 rows_with off item = ap length (all_with off item) ∙ length-append (all_off off) (item ∷ [])
 
-module _ (kept left : ℕ) (off : PutOff) (item : Item) where
+module _ (w kept left : ℕ) (off : PutOff) (item : Item) where
   abbrev follow : ℕ → ℕ
-  follow = to_follow (length off.told) off.again
+  follow = to_follow w (length off.told) off.again
 
   still_follow : follow (kept + 1 + left + length (all_off off)) ≡ follow (kept + suc left + length (all_off off))
   still_follow = let same : kept + 1 + left + length (all_off off) ≡ kept + suc left + length (all_off off) = omega arith in ap follow same
@@ -169,24 +194,24 @@ module _ (kept left : ℕ) (off : PutOff) (item : Item) where
       let same : kept + left + length (all_off (stuck_with off item)) ≡ kept + suc left + length (all_off off) = omega (arith, more) in
       ap follow same
 
-  keys_fewer : (answer : Bool) → keys_to_come (one_if answer kept) left (size_of (cond answer off (stuck_with off item))) + 1 ≤ keys_to_come kept (suc left) (size_of off)
+  keys_fewer : (answer : Bool) → keys_to_come w (one_if answer kept) left (size_of (cond answer off (stuck_with off item))) + 1 ≤ keys_to_come w kept (suc left) (size_of off)
   keys_fewer true = let same = still_follow in omega (arith, same)
   keys_fewer false = let same = stuck_follow in omega (arith, same)
 
-  holders_fewer : (answer : Bool) → holders_to_come (one_if answer kept) left (size_of (cond answer off (stuck_with off item))) + 1 ≤ holders_to_come kept (suc left) (size_of off)
+  holders_fewer : (answer : Bool) → holders_to_come w (one_if answer kept) left (size_of (cond answer off (stuck_with off item))) + 1 ≤ holders_to_come w kept (suc left) (size_of off)
   holders_fewer true = let same = still_follow in omega (arith, same)
   holders_fewer false = let same = stuck_follow in omega (arith, same)
 
-abbrev values_of : ℕ → Size → ℕ
-values_of left off = values_to_come left off.rows off.told off.again
+abbrev values_of : ℕ → ℕ → Size → ℕ
+values_of w left off = values_to_come w left off.rows off.told off.again
 
-values_fewer : (answer : Bool) (left : ℕ) (off : PutOff) → values_of left (size_of (cond answer (record off { again = true }) off)) + 1 ≤ values_of (suc left) (size_of off)
-values_fewer true left off = values_less left (length (all_off off)) (length off.told) true
-values_fewer false left off = values_less left (length (all_off off)) (length off.told) off.again
+values_fewer : (w : ℕ) (answer : Bool) (left : ℕ) (off : PutOff) → values_of w left (size_of (cond answer (record off { again = true }) off)) + 1 ≤ values_of w (suc left) (size_of off)
+values_fewer w true left off = values_less w left (length (all_off off)) (length off.told) true
+values_fewer w false left off = values_less w left (length (all_off off)) (length off.told) off.again
 
 -- another round begins
-again_fewer : (items : List Item) (off : PutOff) → looks_again off ≡ true → items ≡ looked_at off → keys_to_come 0 (length items) (size_of (looking off)) ≤ values_of 0 (size_of off)
-again_fewer items off on is = subst (λ xs. keys_to_come 0 (length xs) (size_of (looking off)) ≤ values_of 0 (size_of off)) (sym is) (by off.told on)
+again_fewer : (w : ℕ) (items : List Item) (off : PutOff) → looks_again off ≡ true → items ≡ looked_at off → keys_to_come w 0 (length items) (size_of (looking off)) ≤ values_of w 0 (size_of off)
+again_fewer w items off on is = subst (λ xs. keys_to_come w 0 (length xs) (size_of (looking off)) ≤ values_of w 0 (size_of off)) (sym is) (by off.told on)
   where
     with_told : List Item → PutOff
     with_told told = record off { told = told }
@@ -194,19 +219,18 @@ again_fewer items off on is = subst (λ xs. keys_to_come 0 (length xs) (size_of 
     rest : List Item
     rest = off.index ++ off.stuck
 
-    by : (told : List Item) → looks_again (with_told told) ≡ true → keys_to_come 0 (length (looked_at (with_told told))) (size_of (looking (with_told told))) ≤ values_of 0 (size_of (with_told told))
+    by : (told : List Item) → looks_again (with_told told) ≡ true → keys_to_come w 0 (length (looked_at (with_told told))) (size_of (looking (with_told told))) ≤ values_of w 0 (size_of (with_told told))
     by [] again =
         let long = length-append off.stuck off.index in
         let rows = length-append off.index off.stuck in
         let same : 0 + length (off.stuck ++ off.index) + 0 ≡ length rest = omega (arith, long, rows) in
-        let follow = ap (to_follow 0 false) same in
-        let all = all_follow (length rest) in
-        subst (λ b. keys_to_come 0 (length (off.stuck ++ off.index)) (size_of none_off) ≤ values_to_come 0 (length rest) 0 b) (sym again) (omega (arith, same, follow, all))
+        let follow = ap (most w) same in
+        subst (λ b. keys_to_come w 0 (length (off.stuck ++ off.index)) (size_of none_off) ≤ values_to_come w 0 (length rest) 0 b) (sym again) (omega (arith, same, follow))
     by (item ∷ told) some =
         let rows = length-append (item ∷ told) rest in
         let same : 0 + length (item ∷ told) + length rest ≡ length ((item ∷ told) ++ rest) = omega (arith, rows) in
-        let follow = ap (to_follow 0 off.again) same in
-        let few = few_follow off.again (length ((item ∷ told) ++ rest)) in
+        let follow = ap (to_follow w 0 off.again) same in
+        let few = few_follow w off.again (length ((item ∷ told) ++ rest)) in
         omega (arith, rows, follow, few)
 
 abbrev is_values : Option Phase → Bool
@@ -239,51 +263,61 @@ module _ (r s g es el sc l : ℕ) where
   e = es + el
 
   abbrev later : ℕ
-  later = 3 * g + s + 3 * el + es + l
+  later = 3 * g + s + l
 
-  -- what comes behind the marks that are made whole, by how many items are set aside
+  -- what comes when the marks are to become whole at a later moment, by how many ephemerons are put off
+  abbrev when_led : ℕ → ℕ
+  when_led n = 2 * n + most 5 n
+
+  abbrev when_picked : ℕ → ℕ
+  when_picked n = 2 * n + most 3 n
+
+  abbrev when_last : ℕ → ℕ
+  when_last n = 2 * n + most 1 n
+
+  -- what comes behind the marks that are made whole, beside the ephemerons, by how many items are set aside
   abbrev behind_them : Moment → ℕ → ℕ
-  behind_them First aside = sc + (2 * s + 2 * es + 6 * r + 3 * most e + later)
-  behind_them Led aside = 4 * aside + (2 * most e + later)
-  behind_them Picked aside = 2 * aside + (most e + later)
+  behind_them First aside = sc + (2 * s + 6 * r + later)
+  behind_them Led aside = 4 * aside + later
+  behind_them Picked aside = 2 * aside + later
   behind_them Last aside = later
 
-  -- what comes in the phase behind a sweep and later
-  abbrev behind_sweep : Sweep → ℕ
-  behind_sweep sweeps.ShortCleanups = sc + (2 * s + 2 * es + 6 * r + 3 * most e + later)
-  behind_sweep sweeps.ShortTargets = 2 * s + 2 * es + 6 * r + 3 * most e + later
-  behind_sweep sweeps.Objects = 6 * r + 3 * most e + later
-  behind_sweep sweeps.LongTargets = later
-  behind_sweep sweeps.ShortHolders = g + s + el + es + l
-  behind_sweep sweeps.LongHolders = g + el + es + l
-  behind_sweep sweeps.LongCleanups = l
+  -- what comes in the phase behind a sweep and later, by how many ephemerons are put off
+  abbrev behind_sweep : Sweep → ℕ → ℕ
+  behind_sweep sweeps.ShortCleanups n = sc + (2 * s + 2 * n + 6 * r + when_led n + later)
+  behind_sweep sweeps.ShortTargets n = 2 * s + 2 * n + 6 * r + when_led n + later
+  behind_sweep sweeps.Objects n = 6 * r + when_led n + later
+  behind_sweep sweeps.LongTargets n = 4 * n + later
+  behind_sweep sweeps.ShortHolders n = g + s + 2 * n + l
+  behind_sweep sweeps.LongHolders n = g + 2 * n + l
+  behind_sweep sweeps.LongCleanups n = l
 
   -- how often a phase and those behind it may go over an item, by how many are kept, left, set aside, and put off
   abbrev to_come : Option Phase → ℕ → ℕ → ℕ → Size → ℕ
   to_come None kept left aside off = 0
-  to_come (Some (Keys moment)) kept left aside off = keys_to_come kept left off + behind_them moment aside
-  to_come (Some (KeysAgain moment)) kept left aside off = keys_to_come kept left off + behind_them moment aside
-  to_come (Some (Holders moment)) kept left aside off = holders_to_come kept left off + behind_them moment aside
-  to_come (Some (Values moment)) kept left aside off = values_of left off + behind_them moment aside
-  to_come (Some (Regions sweep)) kept left aside off = left + behind_sweep sweep
-  to_come (Some ShortCleanups) kept left aside off = left + (2 * s + 2 * es + 6 * r + 3 * most e + later)
-  to_come (Some ShortTargets) kept left aside off = 2 * left + kept + (2 * es + 6 * r + 3 * most e + later)
-  to_come (Some ShortWords) kept left aside off = left + (2 * es + 6 * r + 3 * most e + later)
-  to_come (Some ShortKeys) kept left aside off = 2 * left + kept + (6 * r + 3 * most e + later)
-  to_come (Some ShortKeyWords) kept left aside off = left + (6 * r + 3 * most e + later)
-  to_come (Some Objects) kept left aside off = 6 * left + 5 * kept + (3 * most e + later)
-  to_come (Some Children) kept left aside off = 5 * left + 4 * kept + (3 * most e + later)
-  to_come (Some Again) kept left aside off = 4 * left + 3 * kept + (2 * most e + later)
-  to_come (Some Picks) kept left aside off = 3 * left + 2 * kept + (2 * most e + later)
-  to_come (Some LateAgain) kept left aside off = 2 * left + kept + (most e + later)
-  to_come (Some LatePicks) kept left aside off = left + (most e + later)
-  to_come (Some LongTargets) kept left aside off = 2 * left + kept + (g + s + 3 * el + es + l)
-  to_come (Some LongWords) kept left aside off = left + (g + s + 3 * el + es + l)
-  to_come (Some LongKeys) kept left aside off = 2 * left + kept + (g + s + el + es + l)
-  to_come (Some LongKeyWords) kept left aside off = left + (g + s + el + es + l)
-  to_come (Some ShortHolders) kept left aside off = left + (g + el + es + l)
-  to_come (Some LongHolders) kept left aside off = left + (el + es + l)
-  to_come (Some ShortKeyHolders) kept left aside off = left + (el + l)
+  to_come (Some (Keys moment)) kept left aside off = keys_to_come (weight moment) kept left off + behind_them moment aside
+  to_come (Some (KeysAgain moment)) kept left aside off = keys_to_come (weight moment) kept left off + behind_them moment aside
+  to_come (Some (Holders moment)) kept left aside off = holders_to_come (weight moment) kept left off + behind_them moment aside
+  to_come (Some (Values moment)) kept left aside off = values_of (weight moment) left off + behind_them moment aside
+  to_come (Some (Regions sweep)) kept left aside off = left + behind_sweep sweep off.rows
+  to_come (Some ShortCleanups) kept left aside off = left + (2 * s + 2 * off.rows + 6 * r + when_led off.rows + later)
+  to_come (Some ShortTargets) kept left aside off = 2 * left + kept + (2 * off.rows + 6 * r + when_led off.rows + later)
+  to_come (Some ShortWords) kept left aside off = left + (2 * off.rows + 6 * r + when_led off.rows + later)
+  to_come (Some ShortKeys) kept left aside off = 2 * left + kept + (6 * r + when_led off.rows + later)
+  to_come (Some ShortKeyWords) kept left aside off = left + (6 * r + when_led off.rows + later)
+  to_come (Some Objects) kept left aside off = 6 * left + 5 * kept + (when_led off.rows + later)
+  to_come (Some Children) kept left aside off = 5 * left + 4 * kept + (when_led off.rows + later)
+  to_come (Some Again) kept left aside off = 4 * left + 3 * kept + (when_picked off.rows + later)
+  to_come (Some Picks) kept left aside off = 3 * left + 2 * kept + (when_picked off.rows + later)
+  to_come (Some LateAgain) kept left aside off = 2 * left + kept + (when_last off.rows + later)
+  to_come (Some LatePicks) kept left aside off = left + (when_last off.rows + later)
+  to_come (Some LongTargets) kept left aside off = 2 * left + kept + (g + s + 4 * off.rows + l)
+  to_come (Some LongWords) kept left aside off = left + (g + s + 4 * off.rows + l)
+  to_come (Some LongKeys) kept left aside off = 2 * left + kept + (g + s + 2 * off.rows + l)
+  to_come (Some LongKeyWords) kept left aside off = left + (g + s + 2 * off.rows + l)
+  to_come (Some ShortHolders) kept left aside off = left + (g + 2 * off.rows + l)
+  to_come (Some LongHolders) kept left aside off = left + (2 * off.rows + l)
+  to_come (Some ShortKeyHolders) kept left aside off = left + (off.rows + l)
   to_come (Some LongKeyHolders) kept left aside off = left + l
   to_come (Some LongCleanups) kept left aside off = left
 
@@ -296,10 +330,10 @@ module _ (r s g es el sc l : ℕ) where
 
   fewer : (phase : Phase) (item : Item) (answer : Bool) (kept left aside : ℕ) (off : PutOff)
       → to_come (Some phase) (one_if (keeps phase item answer) kept) left aside (size_of (put_off phase item answer off)) + 1 ≤ to_come (Some phase) kept (suc left) aside (size_of off)
-  fewer (Keys moment) item answer kept left aside off = let few = keys_fewer kept left off item answer in omega (arith, few)
-  fewer (KeysAgain moment) item answer kept left aside off = let few = keys_fewer kept left off item answer in omega (arith, few)
-  fewer (Holders moment) item answer kept left aside off = let few = holders_fewer kept left off item answer in omega (arith, few)
-  fewer (Values moment) item answer kept left aside off = let few = values_fewer answer left off in omega (arith, few)
+  fewer (Keys moment) item answer kept left aside off = let few = keys_fewer (weight moment) kept left off item answer in omega (arith, few)
+  fewer (KeysAgain moment) item answer kept left aside off = let few = keys_fewer (weight moment) kept left off item answer in omega (arith, few)
+  fewer (Holders moment) item answer kept left aside off = let few = holders_fewer (weight moment) kept left off item answer in omega (arith, few)
+  fewer (Values moment) item answer kept left aside off = let few = values_fewer (weight moment) answer left off in omega (arith, few)
   fewer (Regions sweep) item answer kept left aside off = omega arith
   fewer ShortCleanups item answer kept left aside off = let le = one_more (keeps ShortCleanups item answer) kept in omega (arith, le)
   fewer ShortTargets item answer kept left aside off = let le = one_more (keeps ShortTargets item answer) kept in omega (arith, le)
@@ -425,40 +459,75 @@ module _ (r s g es el sc l : ℕ) where
         (items : List Item) → Lists next from told t (given next kept aside off) items
         → to_come (Some next) 0 (length items) (length (aside_in next kept aside)) (size_of (off_in next off)) ≤ to_come (Some phase) (length kept) 0 (length aside) (size_of off)
 
-    rows_begin : (items : List Item) → AreEphemerons t.ephemerons items → keys_to_come 0 (length items) (size_of none_off) ≤ most e
+    -- all ephemerons are listed
+    rows_begin : (items : List Item) → AreEphemerons t.ephemerons items → keys_to_come 9 0 (length items) (size_of none_off) ≤ most 11 e
     rows_begin items are =
         let count = rows_few t.ephemerons items are in
         let few_short = h.short_keys in
         let few_long = h.long_keys in
-        let few = most_le (length items) e (omega (arith, count, few_short, few_long)) in
-        let all = all_follow (length items) in
+        let within : length items ≤ e = omega (arith, count, few_short, few_long) in
+        let few = most_le 9 (length items) e within in
+        let all = two_more 11 9 e refl in
         let same : 0 + length items + 0 ≡ length items = omega arith in
-        let rest = ap (to_follow 0 false) same in
-        omega (arith, few, all, rest)
+        let rest = ap (most 9) same in
+        omega (arith, few, all, rest, within)
+
+    -- or those that are put off, unless they were ended
+    still_few : (p : Item → Bool) (items : List Item) (off : PutOff) → items ≡ filter p (all_off off) → length items ≤ length (all_off off)
+    still_few p items off is = let few = fewer_young p (all_off off) in let long = ap length is in omega (arith, few, long)
+
+    still_begin : (w : ℕ) (p : Item → Bool) (items : List Item) (off : PutOff) → items ≡ filter p (all_off off) → keys_to_come w 0 (length items) (size_of none_off) ≤ 2 * length (all_off off) + most w (length (all_off off))
+    still_begin w p items off is =
+        let within = still_few p items off is in
+        let few = most_le w (length items) (length (all_off off)) within in
+        let same : 0 + length items + 0 ≡ length items = omega arith in
+        let rest = ap (most w) same in
+        omega (arith, few, rest, within)
 
     keys_turn : (moment : Moment) (kept aside items : List Item) (off : PutOff) → items ≡ kept
-        → holders_to_come 0 (length items) (size_of off) + behind_them moment (length aside) ≤ keys_to_come (length kept) 0 (size_of off) + behind_them moment (length aside)
+        → holders_to_come (weight moment) 0 (length items) (size_of off) + behind_them moment (length aside) ≤ keys_to_come (weight moment) (length kept) 0 (size_of off) + behind_them moment (length aside)
     keys_turn moment kept aside items off is =
         let long = ap length is in
         let same : 0 + length items + length (all_off off) ≡ length kept + 0 + length (all_off off) = omega (arith, long) in
-        let rest = ap (to_follow (length off.told) off.again) same in
+        let rest = ap (to_follow (weight moment) (length off.told) off.again) same in
         omega (arith, long, rest)
 
     holders_turn : (moment : Moment) (kept aside items : List Item) (off : PutOff) → items ≡ kept
-        → values_of (length items) (size_of off) + behind_them moment (length aside) ≤ holders_to_come (length kept) 0 (size_of off) + behind_them moment (length aside)
+        → values_of (weight moment) (length items) (size_of off) + behind_them moment (length aside) ≤ holders_to_come (weight moment) (length kept) 0 (size_of off) + behind_them moment (length aside)
     holders_turn moment kept aside items off is =
-        subst (λ (xs : List Item). values_of (length xs) (size_of off) + behind_them moment (length aside) ≤ holders_to_come (length kept) 0 (size_of off) + behind_them moment (length aside)) (sym is)
-        (let few = values_begin (length kept) (length (all_off off)) (length off.told) off.again (length kept + 0 + length (all_off off)) (omega arith) in omega (arith, few))
+        subst (λ (xs : List Item). values_of (weight moment) (length xs) (size_of off) + behind_them moment (length aside) ≤ holders_to_come (weight moment) (length kept) 0 (size_of off) + behind_them moment (length aside)) (sym is)
+        (let few = values_begin (weight moment) (length kept) (length (all_off off)) (length off.told) off.again (length kept + 0 + length (all_off off)) (omega arith) in omega (arith, few))
 
     -- a sweep lists nothing
-    sweep_turn : (sweep : Sweep) (items : List Item) → items ≡ [] → length items + behind_sweep sweep ≤ behind_sweep sweep
-    sweep_turn sweep items none = let long = ap length none in omega (arith, long)
+    sweep_turn : (sweep : Sweep) (n : ℕ) (items : List Item) → items ≡ [] → length items + behind_sweep sweep n ≤ behind_sweep sweep n
+    sweep_turn sweep n items none = let long = ap length none in omega (arith, long)
 
     behind_turn : (moment : Moment) (kept aside : List Item) (off : PutOff) → IsFewer (Values moment) kept aside off (Some (behind moment))
-    behind_turn First kept aside off = λ items is. let none = sweep_turn sweeps.ShortCleanups items is in omega (arith, none)
-    behind_turn Led kept aside off = λ items is. let same = ap length is in omega (arith, same)
-    behind_turn Picked kept aside off = λ items is. let same = ap length is in omega (arith, same)
-    behind_turn Last kept aside off = λ items is. let none = sweep_turn sweeps.LongTargets items is in omega (arith, none)
+    behind_turn First kept aside off = λ items is.
+        let n = length (all_off off) in
+        let none = sweep_turn sweeps.ShortCleanups n items is in
+        let end = values_end 9 n (length off.told) off.again in
+        let two = two_more 9 7 n refl in
+        let four = two_more 7 5 n refl in
+        omega (arith, none, end, two, four)
+    behind_turn Led kept aside off = λ items is.
+        let n = length (all_off off) in
+        let same = ap length is in
+        let end = values_end 5 n (length off.told) off.again in
+        let two = two_more 5 3 n refl in
+        omega (arith, same, end, two)
+    behind_turn Picked kept aside off = λ items is.
+        let n = length (all_off off) in
+        let same = ap length is in
+        let end = values_end 3 n (length off.told) off.again in
+        let two = two_more 3 1 n refl in
+        omega (arith, same, end, two)
+    behind_turn Last kept aside off = λ items is.
+        let n = length (all_off off) in
+        let none = sweep_turn sweeps.LongTargets n items is in
+        let end = values_end 1 n (length off.told) off.again in
+        let few = last_few n in
+        omega (arith, none, end, few)
 
     swept_turn : (sweep : Sweep) (kept aside : List Item) (off : PutOff) → IsFewer (Regions sweep) kept aside off (Some (swept sweep))
     swept_turn sweeps.ShortCleanups kept aside off = λ items are. let few = cleanups_few from told Short sc t.cleanups items h.attached.0 are in omega (arith, few)
@@ -477,27 +546,27 @@ module _ (r s g es el sc l : ℕ) where
       where
         by : (more : Bool) → looks_again off ≡ more → IsFewer (Values moment) kept aside off (next_phase (Values moment) more)
         by false over = behind_turn moment kept aside off
-        by true again = λ items is. let few = again_fewer items off again is in omega (arith, few)
+        by true again = λ items is. let few = again_fewer (weight moment) items off again is in omega (arith, few)
     turns_fewer (Regions sweep) kept aside off = swept_turn sweep kept aside off
-    turns_fewer ShortCleanups kept aside off = λ items is. let none = sweep_turn sweeps.ShortTargets items is in omega (arith, none)
+    turns_fewer ShortCleanups kept aside off = λ items is. let none = sweep_turn sweeps.ShortTargets (length (all_off off)) items is in omega (arith, none)
     turns_fewer ShortTargets kept aside off = λ items is. let same = ap length is in omega (arith, same)
-    turns_fewer ShortWords kept aside off = λ items are. let many = links_few target_of [] t.ephemerons.short items are in let few = h.short_keys in omega (arith, many, few)
+    turns_fewer ShortWords kept aside off = λ items is. let few = still_few (is_still (Some Short) t.ephemerons) items off is in omega (arith, few)
     turns_fewer ShortKeys kept aside off = λ items is. let same = ap length is in omega (arith, same)
-    turns_fewer ShortKeyWords kept aside off = λ items is. let none = sweep_turn sweeps.Objects items is in omega (arith, none)
+    turns_fewer ShortKeyWords kept aside off = λ items is. let none = sweep_turn sweeps.Objects (length (all_off off)) items is in omega (arith, none)
     turns_fewer Objects kept aside off = λ items is. let same = ap length is in omega (arith, same)
-    turns_fewer Children kept aside off = λ items are. let few = rows_begin items are in omega (arith, few)
+    turns_fewer Children kept aside off = λ items is. let few = still_begin 5 (is_still None t.ephemerons) items off is in omega (arith, few)
     turns_fewer Again kept aside off = λ items turned. let same = length_permutation kept items turned.0 in omega (arith, same)
-    turns_fewer Picks kept aside off = λ items are. let few = rows_begin items are in omega (arith, few)
+    turns_fewer Picks kept aside off = λ items is. let few = still_begin 3 (is_still None t.ephemerons) items off is in omega (arith, few)
     turns_fewer LateAgain kept aside off = λ items is. let same = ap length is in omega (arith, same)
-    turns_fewer LatePicks kept aside off = λ items are. let few = rows_begin items are in omega (arith, few)
+    turns_fewer LatePicks kept aside off = λ items is. let few = still_begin 1 (is_still None t.ephemerons) items off is in omega (arith, few)
     turns_fewer LongTargets kept aside off = λ items is. let same = ap length is in omega (arith, same)
-    turns_fewer LongWords kept aside off = λ items are. let many = links_few target_of [] t.ephemerons.long items are in let few = h.long_keys in omega (arith, many, few)
+    turns_fewer LongWords kept aside off = λ items is. let few = still_few (is_still (Some Long) t.ephemerons) items off is in omega (arith, few)
     turns_fewer LongKeys kept aside off = λ items is. let same = ap length is in omega (arith, same)
-    turns_fewer LongKeyWords kept aside off = λ items is. let none = sweep_turn sweeps.ShortHolders items is in omega (arith, none)
-    turns_fewer ShortHolders kept aside off = λ items is. let none = sweep_turn sweeps.LongHolders items is in omega (arith, none)
-    turns_fewer LongHolders kept aside off = λ items are. let many = links_few target_of [] t.ephemerons.short items are in let few = h.short_keys in omega (arith, many, few)
-    turns_fewer ShortKeyHolders kept aside off = λ items are. let many = links_few target_of [] t.ephemerons.long items are in let few = h.long_keys in omega (arith, many, few)
-    turns_fewer LongKeyHolders kept aside off = λ items is. let none = sweep_turn sweeps.LongCleanups items is in omega (arith, none)
+    turns_fewer LongKeyWords kept aside off = λ items is. let none = sweep_turn sweeps.ShortHolders (length (all_off off)) items is in omega (arith, none)
+    turns_fewer ShortHolders kept aside off = λ items is. let none = sweep_turn sweeps.LongHolders (length (all_off off)) items is in omega (arith, none)
+    turns_fewer LongHolders kept aside off = λ items is. let few = still_few (is_still (Some Short) t.ephemerons) items off is in omega (arith, few)
+    turns_fewer ShortKeyHolders kept aside off = λ items is. let few = still_few (is_still (Some Long) t.ephemerons) items off is in omega (arith, few)
+    turns_fewer LongKeyHolders kept aside off = λ items is. let none = sweep_turn sweeps.LongCleanups (length (all_off off)) items is in omega (arith, none)
     turns_fewer LongCleanups kept aside off = tt
 
   goes_fewer : {from : ℕ} (phase : Phase) (k : Going) (last : Option Phase) (m : Going) → GoesOn from phase k last m → IsFit k.finalizers → IsFit m.finalizers × (to_come_in last m ≤ to_come_in (Some phase) k)
@@ -524,7 +593,7 @@ module _ (r s g es el sc l : ℕ) where
   to_come_at m = to_come m.phase (length m.walk.kept) (length m.walk.left) (length m.walk.aside) (size_of m.walk.off)
 
   abbrev all_to_come : ℕ
-  all_to_come = most e + behind_them First 0
+  all_to_come = most 11 e + behind_them First 0
 
   record IsHearing (n : ℕ) (m : Machine) : Type 0 where
     within : IsFit m.finalizers.state
@@ -550,7 +619,7 @@ module _ (r s g es el sc l : ℕ) where
   values_told key moment kept zero aside was now tells some = absurd (omega (arith, some))
   values_told key moment kept (suc left) aside was now tells some =
       let same = length_permutation (all_off was) (all_off now) (tells_moves key was now tells) in
-      let rest = ap most same in
+      let rest = ap (most (weight moment)) same in
       omega (arith, same, rest)
 
   told_fewer : (key : ℕ) (phase : Option Phase) (kept left aside : ℕ) (was now : PutOff) → TellsIn phase key was now → ((moment : Moment) → phase ≡ Some (Values moment) → 0 < left)

@@ -49,7 +49,7 @@ not_late_kind table.Normal = refl
 not_late_kind table.IgnoreSelf = refl
 not_late_kind table.NoOrder = refl
 
-module _ (E : Type 0) (word_of : ℕ → Option ℕ) (value : Map Object → ℕ → Option ℕ) (b : State) (before : Graph) (begin : HasBegun word_of b before) where
+module _ (E : Type 0) (word_of : ℕ → Option ℕ) (value : Map Object → ℕ → Option ℕ) (b : State) (before : Graph) (begin : HasBegun word_of value b before) where
   abbrev Either : Item → Type 0
   Either = IsOfEither b.registrations b.late
 

@@ -1,9 +1,10 @@
 pub mod Kept
 pub mod Index
+pub mod Beside
 pub mod Listed
 pub mod Numbered
 pub mod Gathered
-pub mod Counted
+pub mod Masked
 pub mod Stepping
 pub mod Rooms
 pub mod Ending
@@ -31,6 +32,7 @@ pub mod Choosing
 pub mod Cleaning
 pub mod Delayed
 pub mod Told
+pub mod Parted
 pub mod Waiting
 pub mod Swept
 pub mod Phased
@@ -44,6 +46,7 @@ pub mod Less
 pub mod Worked
 pub mod Rounds
 pub mod Opening
+pub mod May
 pub mod Ran
 pub mod Fewer
 pub mod Spent

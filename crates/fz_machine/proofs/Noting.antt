@@ -1,18 +1,19 @@
 -- A table of regions: what is noted in it, and what was told, before and after a change.
-use Rattle.std.proofs.Common.{All, ◌≡◌, ◌≢◌, ◌⊎◌, inl, inr, ℕ, zero, suc, min, ◌+◌, ◌-◌, ◌^◌, ◌<◌, ◌≤◌, Bool, true, false, true≢false, not, ◌&&◌, cond, is_some, List, [], ◌∷◌, ◌++◌, map, take, drop, zip, set, get_or, length, slice_get, Option, Some, None, option_map, IsTrue, nat_eq, refl, sym, ap, subst, ◌∙◌, ⊎_elim, append_assoc, arith, bit_or, bit_and}
-use Rattle.std.proofs.lemmas.Bool.{cases_eq, cases_lt, eq-eqb, ne_eqb}
+use Rattle.std.proofs.Common.{All, ◌≡◌, ◌≢◌, ◌⊎◌, inl, inr, ℕ, zero, suc, min, ◌+◌, ◌-◌, ◌^◌, ◌<◌, ◌≤◌, Bool, true, false, true≢false, not, ◌&&◌, cond, is_some, List, [], ◌∷◌, ◌++◌, map, take, drop, zip, set, get_or, length, slice_get, position, Option, Some, None, option_map, IsTrue, nat_eq, refl, sym, ap, subst, ◌∙◌, ⊎_elim, append_assoc, arith, bit_or, bit_and}
+use Rattle.std.proofs.lemmas.Bool.{cases_eq, cases_lt, eq-eqb, eqb-true, ne_eqb}
 use Rattle.std.proofs.lemmas.List.{drop-drop, take_all, take-append-le, take_more, take_more_set, length-drop, length-map, length-take}
 use Rattle.std.proofs.lemmas.List.Elements.{All-take, All-drop, Contains-get_or}
+use Rattle.std.proofs.lemmas.List.Quantifiers.{position-Some}
 use Rattle.std.proofs.lemmas.Map.Made.{is_some-lookup, lookup-map_values}
 use Rattle.std.proofs.lemmas.Map.Views.{list_any-from_Contains, lookup-from_Contains}
-use Rattle.std.proofs.lemmas.Option.{none-some, same_Some, slice_get_within, get_or_from_slice_get}
+use Rattle.std.proofs.lemmas.Option.{none-some, same_Some, slice_get-get_or, slice_get_within, get_or_from_slice_get}
 use Rattle.std.proofs.Math.Seq.{take-nil}
 use Rattle.std.specs.Cmp.{nat_eq_equiv}
 use Rattle.std.specs.List.{AllByRecursion, IsDistinct, list_any}
 use Rattle.std.specs.Map.{keys_of, values_of, lookup, set_value}
-use Rattle.std.specs.Option.{option_map_or}
+use Rattle.std.specs.Option.{IfSome, option_map_or}
 use Rattle.indexmap.specs.IndexMap.{IndexMap, insert_entry, set_value_at}
-use Rattle.indexmap.proofs.CallerLemmas.{insert_entry-new}
+use Rattle.indexmap.proofs.CallerLemmas.{insert_entry-new, updates-with_value_at}
 use Rattle.fz_model.specs.Bits.{has_bit}
 use Rattle.fz_model.proofs.Bits.{no_bits}
 use Rattle.fz_machine.specs.declared.regions.Noted.{Noted}
@@ -313,6 +314,45 @@ pub entry_at : (es : List (ℕ × Noted)) (i : ℕ) (v : Noted) → slice_get (v
 entry_at [] i v at = absurd (none-some v at)
 entry_at (e ∷ es) zero v at = (e.0, ap (λ w. Some (e.0, w)) (same_Some e.1 v at))
 entry_at (e ∷ es) (suc i) v at = entry_at es i v at
+
+-- ---- a region is found at an index
+
+pub index_found : (ks : List ℕ) (region : ℕ) (o : Option ℕ) → o ≡ position (nat_eq region) ks → IfSome o (λ i. slice_get ks i ≡ Some region)
+index_found ks region None is = tt
+index_found ks region (Some i) is = let at = position-Some (nat_eq region) ks i 0 (sym is) in slice_get-get_or ks i 0 at.0 ∙ ap Some (sym (eqb-true region (get_or ks i 0) at.1))
+
+pub there_at : (es : List (ℕ × ℕ)) (i region : ℕ) → slice_get (keys_of es) i ≡ Some region → is_some (lookup (nat_eq region) es) ≡ true
+there_at es i region at =
+    is_some-lookup (nat_eq region) es
+    ∙ subst (λ k. list_any (nat_eq k) (keys_of es) ≡ true) (get_or_from_slice_get (keys_of es) i region region at) (list_any-from_Contains nat_eq_equiv (get_or (keys_of es) i region) (keys_of es) (Contains-get_or (keys_of es) i region (slice_get_within (keys_of es) i region at)))
+
+-- it is there, whatever is said of regions
+pub placed_there : (es : List (ℕ × Noted)) (region : ℕ) → is_some (lookup (nat_eq region) es) ≡ is_some (lookup (nat_eq region) (map placed es))
+placed_there es region = is_some-lookup (nat_eq region) es ∙ ap (list_any (nat_eq region)) (sym (keys_placed es)) ∙ sym (is_some-lookup (nat_eq region) (map placed es))
+
+pub lacking : (es : List (ℕ × ℕ)) (region : ℕ) → is_some (lookup (nat_eq region) es) ≡ false → lookup (nat_eq region) es ≡ None
+lacking es region absent = by (lookup (nat_eq region) es) absent
+  where
+    by : (o : Option ℕ) → is_some o ≡ false → o ≡ None
+    by None none = refl
+    by (Some k) some = absurd (true≢false some)
+
+pub key_at : (es : List (ℕ × Noted)) (i : ℕ) (e : ℕ × Noted) → slice_get es i ≡ Some e → slice_get (keys_of es) i ≡ Some e.0
+key_at [] i e at = absurd (none-some e at)
+key_at (f ∷ es) zero e at = ap (λ (x : ℕ × Noted). Some x.0) (same_Some f e at)
+key_at (f ∷ es) (suc i) e at = key_at es i e at
+
+pair_here : (es : List (ℕ × Noted)) (i region : ℕ) (v : Noted) → slice_get (keys_of es) i ≡ Some region → slice_get (values_of es) i ≡ Some v → slice_get es i ≡ Some (region, v)
+pair_here [] i region v key value = absurd (none-some v value)
+pair_here (e ∷ es) zero region v key value = λ j. Some (same_Some e.0 region key j, same_Some e.1 v value j)
+pair_here (e ∷ es) (suc i) region v key value = pair_here es i region v key value
+
+module _ {S : Type 0} (m : IndexMap ℕ Noted S) (i region : ℕ) (v w : Noted) (once : IsDistinct nat_eq (keys_of m.entries)) (key : slice_get (keys_of m.entries) i ≡ Some region) (value : slice_get (values_of m.entries) i ≡ Some v) where
+  pub found_here : lookup (nat_eq region) m.entries ≡ Some v
+  found_here = own_found m.entries i (region, v) once (pair_here m.entries i region v key value)
+
+  pub written_here : (q : ℕ) → lookup (nat_eq q) (set_value_at m.entries i w) ≡ cond (nat_eq region q) (Some w) (lookup (nat_eq q) m.entries)
+  written_here = (updates-with_value_at m i w nat_eq_equiv once region v (pair_here m.entries i region v key value)).0
 
 -- the words about the regions of a question, as many as there are
 pub word_at : (xs : List ℕ) (n i : ℕ) → i < length (take n xs) → drop i xs ≡ get_or (take n xs) i 0 ∷ drop (i + 1) xs

@@ -1,5 +1,5 @@
 -- What holds in each phase of a pass: first while the marks become whole, and then in a pass over the graph in which they are.
-use Rattle.std.proofs.Common.{◌≡◌, ◌⊎◌, ◌∷◌, [], ℕ, Bool, true, false, true≢false, List, Option, Some, None, refl, sym, subst, ◌∙◌, inl, inr, ⊎_elim, IsTrue}
+use Rattle.std.proofs.Common.{◌≡◌, ◌⊎◌, ◌∷◌, [], ℕ, Bool, true, false, true≢false, List, Option, Some, None, refl, sym, ap, subst, ◌∙◌, inl, inr, ⊎_elim, IsTrue}
 use Rattle.fz_model.specs.declared.kinds.LinkKind.TheVariants.{Short}
 use Rattle.fz_model.specs.State.{Map, Object}
 use Rattle.fz_pass.specs.Holds.{IsOfKey, Settles, no_ephemerons}
@@ -19,10 +19,11 @@ use Rattle.fz_machine.specs.Off.{PutOff, looks_again, none_off, put_off}
 use Rattle.fz_machine.specs.Phases.{after, ask_of, is_known, keeps, next_phase, subject}
 use Rattle.fz_machine.specs.Regions.{IsOfSweep}
 use Rattle.fz_machine.proofs.Begun.{HasBegun}
+use Rattle.fz_machine.proofs.Parted.{AreOff, IsParted}
 use Rattle.fz_machine.proofs.Phasing.{kept_on}
 use Rattle.fz_machine.proofs.Rounds as rounds
 use Rattle.fz_machine.proofs.Swept.{Begins}
-use Rattle.fz_machine.proofs.Waiting.{Looks, is_settled, looks_begin, looks_on, looks_told, to_holders, to_keys, to_values}
+use Rattle.fz_machine.proofs.Waiting.{Looks, is_settled, looked_all, looks_first, looks_on, looks_told, to_holders, to_keys, to_values}
 
 -- the phases that make the marks whole before everything else
 abbrev pub IsOfFirst : Phase → Type 0
@@ -74,8 +75,8 @@ module _ (E : Type 0) (word_of : ℕ → Option ℕ) (value : Map Object → ℕ
   IsAfter from None s kept aside off h = IsAtEnd s h
   IsAfter from (Some p) s kept aside off h = Begins word_of IsIn from p s kept aside off h
 
-  module _ (begin : HasBegun word_of b before) where
-    abbrev pub begin_found : (found : ℕ → Bool) → IsFound found → HasBegun word_of b (graph_of before.objects found)
+  module _ (begin : HasBegun word_of value b before) where
+    abbrev pub begin_found : (found : ℕ → Bool) → IsFound found → HasBegun word_of value b (graph_of before.objects found)
     begin_found found is = record {
       may = record {
         registered = begin.registered;
@@ -88,6 +89,7 @@ module _ (E : Type 0) (word_of : ℕ → Option ℕ) (value : Map Object → ℕ
         births = begin.births;
         starts = begin.starts;
         apart = begin.apart;
+        values = begin.values;
       };
       flags = begin.flags;
       single = begin.single;
@@ -125,11 +127,11 @@ module _ (E : Type 0) (word_of : ℕ → Option ℕ) (value : Map Object → ℕ
 
     -- the marks are whole
     cleanups_next : (s : State) (off : PutOff) (h : Graph) → looks_again off ≡ false → s ≡ b → LooksFirst (Values First) [] [] off h → (told : List (ℕ × ℕ)) → AreHonestWords word_of Marks (IsOfSweep sweeps.ShortCleanups s) h told
-        → (items : List Item) → AreCleanups begin.from told Short s.cleanups items → IsIn ShortCleanups s [] items [] none_off h
+        → (items : List Item) → AreCleanups begin.from told Short s.cleanups items → IsIn ShortCleanups s [] items [] off h
     cleanups_next s off h over is q told true_words items are =
         let settled = is_settled E word_of value before.objects b.ephemerons before.marked off h over q in
         let found : IsFound h.marked = record { settled = settled; none = q.settling.none } in
-        inr (h.marked, found, rounds.cleanups_begin E word_of value b (graph_of before.objects h.marked) (begin_found h.marked found) s h is q.settling.objects_are refl told true_words items are [] none_off)
+        inr (h.marked, found, rounds.cleanups_begin E word_of value b (graph_of before.objects h.marked) (begin_found h.marked found) s h is q.settling.objects_are refl told true_words items are [] off)
 
     turn_opening : (phase : Phase) (s : State) (kept aside : List Item) (off : PutOff) (h : Graph) → IsOpening phase s kept [] off h → IsAfter begin.from (next_phase phase (looks_again off)) s kept aside off h
     turn_opening (Keys moment) s kept aside off h (at, is, q) = λ told none items same. inl (at, is, to_holders E word_of value before.objects b.ephemerons before.marked kept items off h q same)
@@ -146,11 +148,17 @@ module _ (E : Type 0) (word_of : ℕ → Option ℕ) (value : Map Object → ℕ
     following_on found is None s kept aside off h end = (found, is, end)
     following_on found is (Some p) s kept aside off h on = λ told true_words items lists. inr (found, is, on told true_words items lists)
 
-    pub turn : (phase : Phase) (s : State) (kept aside : List Item) (off : PutOff) (h : Graph) → IsIn phase s kept [] aside off h → IsAfter begin.from (next_phase phase (looks_again off)) s kept aside off h
-    turn phase s kept aside off h p =
+    -- once the marks are whole, each ephemeron is put off or is past
+    pub settled_all : (moment : Moment) (s : State) (kept aside : List Item) (off : PutOff) (h : Graph) → IsIn (Values moment) s kept [] aside off h → AreOff E word_of value s off h
+    settled_all moment s kept aside off h p =
+        ⊎_elim (λ (q : IsOpening (Values moment) s kept [] off h). looked_all E word_of value before.objects b.ephemerons before.marked s off h (ap (λ (t : State). t.ephemerons) q.1) q.2)
+        (λ (q : IsFollowing (Values moment) s kept [] aside off h). rounds.settled_all E word_of value b (graph_of before.objects q.0) (begin_found q.0 q.1) moment s kept aside off h q.2) p
+
+    pub turn : (phase : Phase) (s : State) (kept aside : List Item) (off : PutOff) (h : Graph) → IsIn phase s kept [] aside off h → IsParted E word_of value b.ephemerons phase s off h → IsAfter begin.from (next_phase phase (looks_again off)) s kept aside off h
+    turn phase s kept aside off h p parted =
         ⊎_elim (turn_opening phase s kept aside off h)
-        (λ (q : IsFollowing phase s kept [] aside off h). following_on q.0 q.1 (next_phase phase (looks_again off)) s kept aside off h (rounds.turn E word_of value b (graph_of before.objects q.0) (begin_found q.0 q.1) phase s kept aside off h q.2)) p
+        (λ (q : IsFollowing phase s kept [] aside off h). following_on q.0 q.1 (next_phase phase (looks_again off)) s kept aside off h (rounds.turn E word_of value b (graph_of before.objects q.0) (begin_found q.0 q.1) phase s kept aside off h q.2 parted)) p
 
     pub opens : (items aside : List Item) (h : Graph) → h ≡ before → AreEphemerons b.ephemerons items → IsIn (Keys First) b [] items aside none_off h
     opens items aside h is are =
-        subst (λ (x : Graph). IsIn (Keys First) b [] items aside none_off x) (sym is) (inl (refl, refl, looks_begin E word_of value before.objects b.ephemerons before.marked items before refl refl begin.closed are))
+        subst (λ (x : Graph). IsIn (Keys First) b [] items aside none_off x) (sym is) (inl (refl, refl, looks_first E word_of value before.objects b.ephemerons before.marked items before refl refl begin.closed are))

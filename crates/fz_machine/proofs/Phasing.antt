@@ -127,18 +127,22 @@ module _ (E : Type 0) (word_of : ℕ → Option ℕ) (value : Map Object → ℕ
   abbrev is_lying : ℕ → Bool
   is_lying n = is_held word_of objects marked n
 
+  pub holds_from : (s : State) (items : List Item) (h : Graph) → s ≡ at links → h.objects ≡ objects → h.marked ≡ marked → Each (IsLink word_of objects links marked) items
+      → ((object word : ℕ) → get links word ≡ Some object → is_lying word ≡ false → OneOf (IsAt object word) items) → Holds s items h
+  holds_from s items h state objects_are marks_are each all = record {
+    now = links;
+    state = state;
+    objects_are = objects_are;
+    marks_are = marks_are;
+    left_are = each;
+    are = holding_begins word_of objects links marked items all;
+  }
+
   pub holds_begin : (told : List (ℕ × ℕ)) → Knows is_lying (λ n. IsTrue (contains_key links n)) told → (s : State) (items : List Item) (h : Graph) → s ≡ at links → h.objects ≡ objects → h.marked ≡ marked → AreLinks the.word_of told links items
       → Holds s items h × Each (IsFalseOf is_lying word_in) items
   holds_begin told knows s items h state objects_are marks_are are = (
-    record {
-      now = links;
-      state = state;
-      objects_are = objects_are;
-      marks_are = marks_are;
-      left_are = links_each the.word_of told links items are;
-      are = holding_begins word_of objects links marked items
-          (λ object word here off. links_all the.word_of told links items are object word here (not_told is_lying (λ n. IsTrue (contains_key links n)) told knows word (ap is_some here) off));
-    },
+    holds_from s items h state objects_are marks_are (links_each the.word_of told links items are)
+        (λ object word here off. links_all the.word_of told links items are object word here (not_told is_lying (λ n. IsTrue (contains_key links n)) told knows word (ap is_some here) off)),
     known_false is_lying (λ n. IsTrue (contains_key links n)) told word_in knows items
         (each_as (λ (i : Item). get links i.word ≡ Some i.object) (λ (i : Item). IsTrue (contains_key links i.word)) (λ i here. ap is_some here) items (links_each the.word_of told links items are)) (links_known the.word_of told links items are),
   )

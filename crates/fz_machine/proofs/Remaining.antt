@@ -18,7 +18,7 @@ use Rattle.fz_machine.specs.declared.phase.Sweep.{Sweep}
 use Rattle.fz_machine.specs.declared.phase.Sweep.TheVariants.{Objects}
 use Rattle.fz_machine.specs.Causes.{first_of}
 use Rattle.fz_machine.specs.declared.machine.By.{By}
-use Rattle.fz_machine.specs.Going.{AreRenewed, AreTables, AsksNone, Changes, HaveRoom, IsInOrder, IsTable, Lacks}
+use Rattle.fz_machine.specs.Going.{AreRenewed, AreTables, AsksNone, Changes, HasRoomOffIn, HaveRoom, IsInOrder, IsTable, Lacks}
 use Rattle.fz_machine.specs.Machines.{Keeps, Machine, Notes, is_noted, of_links, tabled_for}
 use Rattle.fz_machine.specs.Phases.{settles_in, swept}
 use Rattle.fz_machine.specs.Regions.{Regions as Table, IsNoted, IsOfSweep, IsUntold, KeepsTable, attached, holders, index_of, no_regions, table_at, targets}
@@ -49,7 +49,7 @@ module _ (s : State) (walk : Walk) (tables : List Table) (phase : Option Phase) 
   -- with other tables
   pub anew : (t : State) (other : Walk) (ts : List Table) → HaveRoom false t other → AreTables t ts None → IsWell t other ts phase asked
   anew t other ts room are = (
-    record { room = subst (λ (o : Option Phase). HaveRoom (settles_in o) t other) (sym idle) room; room_off = λ on. absurd (true≢false (sym on ∙ ap settles_in idle)); tables = subst (AreTables t ts) (sym idle) are },
+    record { room = subst (λ (o : Option Phase). HaveRoom (settles_in o) t other) (sym idle) room; room_off = subst (λ (o : Option Phase). HasRoomOffIn o other) (sym idle) tt; tables = subst (AreTables t ts) (sym idle) are },
     subst (λ (o : Option Phase). AsksNone o asked) (sym idle) tt,
     λ sweep at. absurd (none-some (swept sweep) (sym idle ∙ at)),
   )

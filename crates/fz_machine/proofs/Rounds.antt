@@ -1,5 +1,5 @@
 -- What holds in each phase once the marks are whole: first in the round over short cleanups, and then in a pass over what it leaves.
-use Rattle.std.proofs.Common.{◌≡◌, ◌⊎◌, ◌∷◌, ◌∙◌, [], ℕ, Bool, false, List, Option, Some, None, refl, sym, ap, subst, inl, inr, ⊎_elim, IsTrue}
+use Rattle.std.proofs.Common.{◌≡◌, ◌⊎◌, ◌∷◌, ◌∙◌, [], ℕ, Bool, false, true≢false, List, Option, Some, None, refl, sym, ap, subst, inl, inr, ⊎_elim, IsTrue}
 use Rattle.fz_model.specs.declared.kinds.LinkKind.TheVariants.{Short}
 use Rattle.fz_model.specs.State.{Map, Object}
 use Rattle.fz_finalizers.specs.declared.cleanups.Attached.{Attached}
@@ -7,8 +7,9 @@ use Rattle.fz_finalizers.specs.Cleanups.{AreDue, is_due}
 use Rattle.fz_finalizers.specs.States.{State}
 use Rattle.fz_finalizers.proofs.Cleaned.{without_back}
 use Rattle.fz_machine.specs.declared.item.Item.{Item}
+use Rattle.fz_machine.specs.declared.phase.Moment.{Moment}
 use Rattle.fz_machine.specs.declared.phase.Phase.{Phase}
-use Rattle.fz_machine.specs.declared.phase.Phase.TheVariants.{ShortCleanups, ShortTargets}
+use Rattle.fz_machine.specs.declared.phase.Phase.TheVariants.{ShortCleanups, ShortTargets, Values}
 use Rattle.fz_machine.specs.declared.phase.Sweep.TheVariants as sweeps
 use Rattle.fz_machine.specs.declared.question.Ask.TheVariants.{Marks}
 use Rattle.fz_machine.specs.Graph.{AreHonestWords, Graph, IsHonest}
@@ -16,13 +17,14 @@ use Rattle.fz_machine.specs.Items.{AreCleanups, AreLinks}
 use Rattle.fz_machine.specs.Items as the
 use Rattle.fz_machine.specs.Machines.{TellsIn}
 use Rattle.fz_machine.specs.Off.{PutOff, looks_again, put_off}
-use Rattle.fz_machine.specs.Phases.{after, ask_of, is_known, keeps, next_phase, subject}
+use Rattle.fz_machine.specs.Phases.{after, ask_of, is_known, keeps, next_phase, settles, subject}
 use Rattle.fz_machine.specs.Regions.{IsOfSweep}
 use Rattle.fz_machine.proofs.Begun.{HasBegun, young_attached}
 use Rattle.fz_machine.proofs.Cleaning.{Cleaning, after_due, cleaning_all, cleaning_begins, cleaning_on}
 use Rattle.fz_machine.proofs.Among.{Each}
 use Rattle.fz_machine.proofs.Honest.{IsFalseOf, Knows, knows, object_of}
 use Rattle.fz_machine.proofs.Keeping as keeping
+use Rattle.fz_machine.proofs.Parted.{AreOff, IsParted}
 use Rattle.fz_machine.proofs.Phased as phased
 use Rattle.fz_machine.proofs.Phasing.{kept_on, targets_begin}
 use Rattle.fz_machine.proofs.Stated.{as_begun}
@@ -52,10 +54,10 @@ module _ (E : Type 0) (word_of : ℕ → Option ℕ) (value : Map Object → ℕ
   IsAfter from None s kept aside off h = IsAtEnd s h
   IsAfter from (Some p) s kept aside off h = Begins word_of IsIn from p s kept aside off h
 
-  module _ (begin : HasBegun word_of b before) where
-    abbrev pub begin_behind : (due : List (ℕ × Attached)) → HasBegun word_of (after_due b due) before
+  module _ (begin : HasBegun word_of value b before) where
+    abbrev pub begin_behind : (due : List (ℕ × Attached)) → HasBegun word_of value (after_due b due) before
     begin_behind due = record {
-      may = record { registered = begin.registered; short = begin.short; long = begin.long; short_keys = begin.short_keys; long_keys = begin.long_keys; zero = begin.zero; closed = begin.closed; births = begin.births; starts = begin.starts; apart = begin.apart };
+      may = record { registered = begin.registered; short = begin.short; long = begin.long; short_keys = begin.short_keys; long_keys = begin.long_keys; zero = begin.zero; closed = begin.closed; births = begin.births; starts = begin.starts; apart = begin.apart; values = begin.values };
       flags = begin.flags;
       single = begin.single;
       from = begin.from;
@@ -108,10 +110,16 @@ module _ (E : Type 0) (word_of : ℕ → Option ℕ) (value : Map Object → ℕ
     behind_on due are None s kept aside off h end = (due, are, end)
     behind_on due are (Some p) s kept aside off h on = λ told true_words items lists. inr (due, are, on told true_words items lists)
 
-    pub turn : (phase : Phase) (s : State) (kept aside : List Item) (off : PutOff) (h : Graph) → IsIn phase s kept [] aside off h → IsAfter begin.from (next_phase phase (looks_again off)) s kept aside off h
-    turn phase s kept aside off h p =
+    -- once the marks are whole, each ephemeron is put off or is past
+    pub settled_all : (moment : Moment) (s : State) (kept aside : List Item) (off : PutOff) (h : Graph) → IsIn (Values moment) s kept [] aside off h → AreOff E word_of value s off h
+    settled_all moment s kept aside off h p =
+        ⊎_elim (λ (q : IsFirst (Values moment) s [] h). absurd (true≢false (ap settles q.0)))
+        (λ (q : IsBehind (Values moment) s kept [] aside off h). turning.settled_all E word_of value (after_due b q.0) before (begin_behind q.0) moment s kept aside off h q.2) p
+
+    pub turn : (phase : Phase) (s : State) (kept aside : List Item) (off : PutOff) (h : Graph) → IsIn phase s kept [] aside off h → IsParted E word_of value b.ephemerons phase s off h → IsAfter begin.from (next_phase phase (looks_again off)) s kept aside off h
+    turn phase s kept aside off h p parted =
         ⊎_elim (λ (q : IsFirst phase s [] h). subst (λ (o : Phase). IsAfter begin.from (next_phase o (looks_again off)) s kept aside off h) (sym q.0) (λ told true_words items are. links_begin s h q.1 told true_words items are aside off))
-        (λ (q : IsBehind phase s kept [] aside off h). behind_on q.0 q.1 (next_phase phase (looks_again off)) s kept aside off h (turning.turn E word_of value (after_due b q.0) before (begin_behind q.0) phase s kept aside off h q.2)) p
+        (λ (q : IsBehind phase s kept [] aside off h). behind_on q.0 q.1 (next_phase phase (looks_again off)) s kept aside off h (turning.turn E word_of value (after_due b q.0) before (begin_behind q.0) phase s kept aside off h q.2 parted)) p
 
     -- the round begins
     pub cleanups_begin : (s : State) (h : Graph) → s ≡ b → h.objects ≡ before.objects → h.marked ≡ before.marked → (told : List (ℕ × ℕ)) → AreHonestWords word_of Marks (IsOfSweep sweeps.ShortCleanups s) h told

@@ -19,6 +19,7 @@ use Rattle.fz_machine.specs.Steps.{Begins, Going, GoesOn, Sweeps, skip, skipped,
 use Rattle.fz_machine.specs.Walks.{Walk}
 use Rattle.fz_machine.proofs.Less.{IsLess}
 use Rattle.fz_machine.proofs.Renoted.{known_listed}
+use Rattle.fz_machine.proofs.Beside.{rows_grown, rows_resumed}
 use Rattle.fz_machine.proofs.Rooms.{rooms_grown}
 use Rattle.fz_machine.proofs.Stepping.{skip_stops}
 use Rattle.fz_machine.proofs.Tabled.{begun_questions, cases_sweep, fewer_map, fewer_questions, more_questions}
@@ -194,6 +195,18 @@ module _ (from : ℕ) (f : View) (walk new : Walk) where
       by sweeps.LongHolders h = record { main = h.main; rows = h.rows; off = h.off }
       by sweeps.LongCleanups h = record { main = h.main; rows = h.rows; off = h.off }
 
+  pub sweep_room_off : (sweep : Sweep) → new ≡ emptied sweep walk → HasRoomOff (follows_settling (Regions sweep)) walk → HasRoomOff false new
+  sweep_room_off sweep is = subst (λ (w : Walk). HasRoomOff (follows_settling (Regions sweep)) walk → HasRoomOff false w) (sym is) (by sweep)
+    where
+      by : (w : Sweep) → HasRoomOff (follows_settling (Regions w)) walk → HasRoomOff false (emptied w walk)
+      by sweeps.ShortCleanups h = rows_resumed walk h
+      by sweeps.ShortTargets h = h
+      by sweeps.Objects h = h
+      by sweeps.LongTargets h = rows_resumed walk h
+      by sweeps.ShortHolders h = h
+      by sweeps.LongHolders h = h
+      by sweeps.LongCleanups h = h
+
 -- ---- the phase behind a sweep begins
 
 swept_once : (a b : Sweep) → swept a ≡ swept b → a ≡ b
@@ -299,14 +312,14 @@ module _ (from : ℕ) (f : View) (walk new : Walk) (listed : IsListed walk new) 
       by sweeps.LongHolders h = grown h
       by sweeps.LongCleanups h = grown h
 
-  pub swept_room_off : (sweep : Sweep) → HasRoomOff (settles (swept sweep)) new
-  swept_room_off sweeps.ShortCleanups = λ on. absurd (true≢false (sym on))
-  swept_room_off sweeps.ShortTargets = λ on. absurd (true≢false (sym on))
-  swept_room_off sweeps.Objects = λ on. absurd (true≢false (sym on))
-  swept_room_off sweeps.LongTargets = λ on. absurd (true≢false (sym on))
-  swept_room_off sweeps.ShortHolders = λ on. absurd (true≢false (sym on))
-  swept_room_off sweeps.LongHolders = λ on. absurd (true≢false (sym on))
-  swept_room_off sweeps.LongCleanups = λ on. absurd (true≢false (sym on))
+  pub swept_room_off : (sweep : Sweep) → HasRoomOff (follows_settling (swept sweep)) walk → HasRoomOff (settles (swept sweep)) new
+  swept_room_off sweeps.ShortCleanups = rows_grown walk new listed
+  swept_room_off sweeps.ShortTargets = rows_grown walk new listed
+  swept_room_off sweeps.Objects = rows_grown walk new listed
+  swept_room_off sweeps.LongTargets = rows_grown walk new listed
+  swept_room_off sweeps.ShortHolders = rows_grown walk new listed
+  swept_room_off sweeps.LongHolders = rows_grown walk new listed
+  swept_room_off sweeps.LongCleanups = rows_grown walk new listed
 
 -- ---- what a phase begins with
 

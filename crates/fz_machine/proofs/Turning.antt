@@ -1,5 +1,5 @@
 -- From phase to phase, and to the end.
-use Rattle.std.proofs.Common.{◌≡◌, ◌++◌, ◌∙◌, [], ℕ, Bool, true, false, not, List, Some, length, refl, sym, ap, subst, inl, inr, ⊎_elim, is_some, append-nil, IsTrue, Option}
+use Rattle.std.proofs.Common.{◌≡◌, ◌++◌, ◌∙◌, [], ℕ, Bool, true, false, not, filter, List, None, Some, length, refl, sym, ap, subst, inl, inr, ⊎_elim, is_some, append-nil, IsTrue, Option}
 use Rattle.std.specs.FinMap.{contains_key, get, retain_keys}
 use Rattle.std.specs.FinSet.{contains}
 use Rattle.fz_model.specs.State.{Map, Object}
@@ -7,6 +7,7 @@ use Rattle.fz_model.specs.Memory.{points}
 use Rattle.fz_model.specs.Pass.{is_dead}
 use Rattle.fz_model.proofs.SeenKept.{points-filled}
 use Rattle.fz_pass.specs.Holds.{Ephemerons, IsOfKey}
+use Rattle.fz_pass.specs.Keyed.{of_kind}
 use Rattle.fz_pass.specs.Queued.{MarksLed}
 use Rattle.fz_pass.specs.QueuedWhole.{QueuesWhole}
 use Rattle.fz_pass.specs.Marks.{IsClosed, with_holders, with_targets}
@@ -15,7 +16,8 @@ use Rattle.fz_pass.proofs.Holding.{whole_closed}
 use Rattle.fz_pass.proofs.Passed.{closed_still, dropped_twice}
 use Rattle.fz_pass.proofs.Tiers.{flag_of_round, unskipped_off}
 use Rattle.fz_pass.proofs.Wholes.{decided}
-use Rattle.fz_model.specs.declared.kinds.LinkKind.TheVariants.{Long}
+use Rattle.fz_model.specs.declared.kinds.LinkKind.{LinkKind}
+use Rattle.fz_model.specs.declared.kinds.LinkKind.TheVariants.{Long, Short}
 use Rattle.fz_finalizers.specs.Passed.{parts_in, parts_left_in}
 use Rattle.fz_finalizers.specs.Ready.{DecidesKeyed}
 use Rattle.fz_finalizers.specs.States.{State}
@@ -27,10 +29,10 @@ use Rattle.fz_machine.specs.declared.phase.Phase.TheVariants.{Keys, KeysAgain, H
 use Rattle.fz_machine.specs.declared.phase.Sweep.TheVariants as sweeps
 use Rattle.fz_machine.specs.declared.question.Ask.TheVariants.{Live, Marks}
 use Rattle.fz_machine.specs.Graph.{AreHonestWords, Graph}
-use Rattle.fz_machine.specs.Items.{AreCleanups, AreEphemerons, AreInTurn, AreLinks, AreObjects, place_of}
+use Rattle.fz_machine.specs.Items.{AreCleanups, AreInTurn, AreLinks, AreObjects, is_still, place_of}
 use Rattle.fz_machine.specs.Items as the
-use Rattle.fz_machine.specs.Off.{PutOff, looked_at, looking, looks_again, none_off}
-use Rattle.fz_machine.specs.Phases.{next_phase}
+use Rattle.fz_machine.specs.Off.{PutOff, all_off, looked_at, looking, looks_again, none_off}
+use Rattle.fz_machine.specs.Phases.{next_phase, settles}
 use Rattle.fz_machine.specs.Regions.{IsOfSweep}
 use Rattle.fz_machine.proofs.Among.{AreInOrder, Each, OneOf, each_as, each_permuted, one_as, one_permuted, order_from}
 use Rattle.fz_machine.proofs.Begun.{HasBegun, closed, found_led, led_picked, long_key_targets, long_targets, normal, not_before, registered, short_key_targets, still_nowhere, was_there, young_attached, young_registered}
@@ -38,17 +40,17 @@ use Rattle.fz_machine.proofs.Cleaning.{cleaning_all, cleaning_begins}
 use Rattle.fz_machine.proofs.Chosen.{choosing_begins, chosen_all}
 use Rattle.fz_machine.proofs.DeadWords.{IsLink, IsLinkAt}
 use Rattle.fz_machine.proofs.Entered.{IsEitherAt, either_at, IsLate, IsLateAt, IsOfEither, objects_all, objects_each, objects_known}
-use Rattle.fz_machine.proofs.Honest.{Knows, known_false, knows, none_known, not_told, object_of}
+use Rattle.fz_machine.proofs.Honest.{Knows, known_false, knows, not_told, object_of}
 use Rattle.fz_machine.proofs.Led.{leading_begins, led_all}
 use Rattle.fz_machine.proofs.Phased.{IsAfter, IsAtEnd, IsIn, IsSettling, IsUnfound, Leading, LeadsOn, Picked, PickedBoth, PicksLate, PicksOn, SettlesLed, SettlesPicked, SettlesLast, after_picks, begun_with, clear, cleared_links, judged, keys_held, keys_left, last, last_links, long_held, long_keys_held, long_keys_left, long_left, passed, picked_with, short_held, short_left}
-use Rattle.fz_machine.proofs.Phasing.{Sifts, Clears, clears_all, clears_begin, holds_all, holds_begin, sifts_begin, targets_begin}
+use Rattle.fz_machine.proofs.Phasing.{Clears, Holds, Sifts, clears_all, clears_begin, holds_all, holds_begin, holds_from, sifts_begin, targets_begin}
 use Rattle.fz_machine.proofs.Sifting.{IsAt, sifted}
 use Rattle.fz_machine.proofs.Stated.{tabled}
-use Rattle.fz_machine.proofs.Delayed.{all_off}
+use Rattle.fz_machine.proofs.Parted.{AreOff, IsParted, each_of_kind, holders_listed, keys_listed, waits_listed}
 use Rattle.fz_machine.proofs.Waiting as waiting
-use Rattle.fz_machine.proofs.Waiting.{is_settled, looks_begin, to_holders, to_keys, to_values}
+use Rattle.fz_machine.proofs.Waiting.{is_settled, looked_all, looks_begin, to_holders, to_keys, to_values}
 
-module _ (E : Type 0) (word_of : ℕ → Option ℕ) (value : Map Object → ℕ → Option ℕ) (b : State) (before : Graph) (begin : HasBegun word_of b before) where
+module _ (E : Type 0) (word_of : ℕ → Option ℕ) (value : Map Object → ℕ → Option ℕ) (b : State) (before : Graph) (begin : HasBegun word_of value b before) where
   abbrev Either : Item → Type 0
   Either = IsOfEither b.registrations b.late
 
@@ -82,6 +84,9 @@ module _ (E : Type 0) (word_of : ℕ → Option ℕ) (value : Map Object → ℕ
   abbrev At : Phase → State → List Item → List Item → List Item → PutOff → Graph → Type 0
   At = IsIn E word_of value b before
 
+  abbrev PartedIn : Phase → State → PutOff → Graph → Type 0
+  PartedIn = IsParted E word_of value b.ephemerons
+
   -- ---- what is told in a sweep
 
   -- what these links lead to is known, as far as it was told
@@ -99,11 +104,23 @@ module _ (E : Type 0) (word_of : ℕ → Option ℕ) (value : Map Object → ℕ
 
   -- ---- to registered objects
 
-  to_short_keys : (s : State) (aside : List Item) (off : PutOff) (h : Graph) → Clears E word_of value (λ links. with_links links b.ephemerons.short) before.objects b.short before.marked s [] h → (items : List Item) → AreLinks the.target_of [] s.ephemerons.short items → At ShortKeys s [] items aside off h
-  to_short_keys s aside off h p items are =
+  -- what is listed of the ephemerons that are put off: those whose keys aren't marked, and those whose holders aren't
+  module _ (phase : Phase) (s : State) (off : PutOff) (h : Graph) (q : PartedIn phase s off h) (out : settles phase ≡ false) (kind : LinkKind) (links : Map ℕ) (same : of_kind s.ephemerons kind ≡ links) (items : List Item) (is : items ≡ filter (is_still (Some kind) s.ephemerons) (all_off off)) (objects : Map Object) (marked : ℕ → Bool) (objects_are : h.objects ≡ objects) (marks_are : h.marked ≡ marked) where
+    keys_begin : (at : State) → s ≡ at → Sifts E word_of value at objects marked (IsLink word_of objects links marked) (IsLinkAt word_of objects links marked) s [] items h
+    keys_begin at state =
+        sifts_begin E word_of value at objects marked (IsLink word_of objects links marked) (IsLinkAt word_of objects links marked) s items h state objects_are marks_are (each_of_kind E word_of value b.ephemerons s off h q.stays (q.all out) items kind links same is)
+        (keys_listed E word_of value b.ephemerons s off h q.stays (q.all out) items kind links same is marked marks_are)
+
+    key_holders_begin : (at : Map ℕ → State) → s ≡ at links → Holds E word_of value at objects links marked s items h
+    key_holders_begin at state =
+        holds_from E word_of value at objects links marked s items h state objects_are marks_are (each_of_kind E word_of value b.ephemerons s off h q.stays (q.all out) items kind links same is)
+        (holders_listed E word_of value b.ephemerons s off h q.stays (q.all out) items kind links same is objects marked objects_are marks_are)
+
+  to_short_keys : (s : State) (aside : List Item) (off : PutOff) (h : Graph) → Clears E word_of value (λ links. with_links links b.ephemerons.short) before.objects b.short before.marked s [] h → PartedIn ShortWords s off h
+      → (items : List Item) → items ≡ filter (is_still (Some Short) s.ephemerons) (all_off off) → At ShortKeys s [] items aside off h
+  to_short_keys s aside off h p q items is =
       let all = clears_all E word_of value (λ links. with_links links b.ephemerons.short) before.objects b.short before.marked begin.short begin.apart s h p in
-      let listed : AreLinks the.target_of [] b.ephemerons.short items = subst (λ (t : State). AreLinks the.target_of [] t.ephemerons.short items) all.0 are in
-      (targets_begin E word_of value (with_links shorts b.ephemerons.short) begun b.ephemerons.short before.marked [] (none_known before.marked (λ n. (word : ℕ) × (get b.ephemerons.short word ≡ Some n))) s items h all.0 all.1 all.2 listed).0
+      keys_begin ShortWords s off h q refl Short b.ephemerons.short (ap (λ (t : State). t.ephemerons.short) all.0) items is begun before.marked all.1 all.2 (with_links shorts b.ephemerons.short) all.0
 
   to_objects : (s : State) (aside : List Item) (off : PutOff) (h : Graph) → Clears E word_of value (λ keys. with_links shorts keys) begun b.ephemerons.short before.marked s [] h → (told : List (ℕ × ℕ)) → AreHonestWords word_of Marks (IsOfSweep sweeps.Objects s) h told
       → (items : List Item) → AreObjects begin.from told s.registrations s.late items → At Objects s [] items aside off h
@@ -134,8 +151,10 @@ module _ (E : Type 0) (word_of : ℕ → Option ℕ) (value : Map Object → ℕ
 
   -- ---- to picks
 
-  to_led : (s : State) (kept : List Item) (h : Graph) → LeadsOn E word_of value b before s kept [] h → (items : List Item) → AreEphemerons s.ephemerons items → At (Keys moments.Led) s [] items kept none_off h
-  to_led s kept h p items are =
+  to_led : (s : State) (kept : List Item) (off : PutOff) (h : Graph) → LeadsOn E word_of value b before s kept [] h → PartedIn Children s off h → (items : List Item) → items ≡ filter (is_still None s.ephemerons) (all_off off)
+      → At (Keys moments.Led) s [] items kept none_off h
+  to_led s kept off h p q items is =
+      let listed = waits_listed E word_of value b.ephemerons s off h q.stays (q.all refl) items rows clearly (ap (λ (t : State). t.ephemerons) p.state) p.are.objects is in
       let m : MarksLed E clearly before.marked h.marked b.registrations = led_all E word_of value clearly b.registrations b.late before.marked (registered E word_of value b before begin) (normal E word_of value b before begin) h p.are in (
         record {
           marked = h.marked;
@@ -144,7 +163,7 @@ module _ (E : Type 0) (word_of : ℕ → Option ℕ) (value : Map Object → ℕ
           aside_are = each_as (IsUnfound E word_of value b before) Either (λ i x. x.0) kept p.kept_are;
           rest = λ object word at off. ⊎_elim (λ k. k) (λ k. absurd k) (p.rest object word at off);
         },
-        looks_begin E word_of value clearly rows h.marked items h p.are.objects refl m.closed (subst (λ (t : State). AreEphemerons t.ephemerons items) p.state are),
+        looks_begin E word_of value clearly rows h.marked items h p.are.objects refl m.closed listed.0 listed.1,
       )
 
   to_again : (s : State) (aside : List Item) (off : PutOff) (more_aside : List Item) (more_off : PutOff) (h : Graph) → looks_again off ≡ false → (w : SettlesLed E word_of value b before s aside) → waiting.Marking E word_of value clearly rows w.marked [] (all_off off) off.again h → (items : List Item) → items ≡ aside → At Again s [] items more_aside more_off h
@@ -177,8 +196,10 @@ module _ (E : Type 0) (word_of : ℕ → Option ℕ) (value : Map Object → ℕ
 
   -- ---- to picks of late ones
 
-  to_picked : (s : State) (kept : List Item) (h : Graph) → PicksOn E word_of value b before s kept [] h → (items : List Item) → AreEphemerons s.ephemerons items → At (Keys moments.Picked) s [] items kept none_off h
-  to_picked s kept h p items are =
+  to_picked : (s : State) (kept : List Item) (off : PutOff) (h : Graph) → PicksOn E word_of value b before s kept [] h → PartedIn Picks s off h → (items : List Item) → items ≡ filter (is_still None s.ephemerons) (all_off off)
+      → At (Keys moments.Picked) s [] items kept none_off h
+  to_picked s kept off h p q items is =
+      let listed = waits_listed E word_of value b.ephemerons s off h q.stays (q.all refl) items rows clearly (ap (λ (t : State). t.ephemerons) p.state) p.are.objects is in
       let all = chosen_all E clearly (tabled b) p.leading.led false (contains b.late) 0 p.now p.picks h p.are in (
         record {
           leading = p.leading;
@@ -192,7 +213,7 @@ module _ (E : Type 0) (word_of : ℕ → Option ℕ) (value : Map Object → ℕ
           rest = λ object word at off. ⊎_elim (λ k. k) (λ k. absurd k) (p.rest object word at off);
           ordered = subst (AreInOrder place_of) (append-nil kept) p.ordered;
         },
-        looks_begin E word_of value clearly rows h.marked items h p.are.objects refl all.1.closed (subst (λ (t : State). AreEphemerons t.ephemerons items) p.state are),
+        looks_begin E word_of value clearly rows h.marked items h p.are.objects refl all.1.closed listed.0 listed.1,
       )
 
   to_late_again : (s : State) (aside : List Item) (off : PutOff) (more_aside : List Item) (more_off : PutOff) (h : Graph) → looks_again off ≡ false → (w : SettlesPicked E word_of value b before s aside) → waiting.Marking E word_of value clearly rows w.marked [] (all_off off) off.again h → (items : List Item) → items ≡ aside
@@ -231,11 +252,13 @@ module _ (E : Type 0) (word_of : ℕ → Option ℕ) (value : Map Object → ℕ
 
   -- ---- to long links
 
-  to_last : (s : State) (kept : List Item) (h : Graph) → PicksLate E word_of value b before s [] h → (items : List Item) → AreEphemerons s.ephemerons items → At (Keys moments.Last) s [] items kept none_off h
-  to_last s kept h p items are =
+  to_last : (s : State) (kept : List Item) (off : PutOff) (h : Graph) → PicksLate E word_of value b before s [] h → PartedIn LatePicks s off h → (items : List Item) → items ≡ filter (is_still None s.ephemerons) (all_off off)
+      → At (Keys moments.Last) s [] items kept none_off h
+  to_last s kept off h p q items is =
+      let listed = waits_listed E word_of value b.ephemerons s off h q.stays (q.all refl) items rows clearly (ap (λ (t : State). t.ephemerons) p.state) p.are.objects is in
       let all = chosen_all E clearly p.first.table p.first.mid true (contains b.late) 256 p.now p.late_picks h p.are in (
         record { first = p.first; table = p.now; late_picks = p.late_picks; marked = h.marked; are = all.0; marks = all.1; state = p.state },
-        looks_begin E word_of value clearly rows h.marked items h p.are.objects refl all.1.closed (subst (λ (t : State). AreEphemerons t.ephemerons items) p.state are),
+        looks_begin E word_of value clearly rows h.marked items h p.are.objects refl all.1.closed listed.0 listed.1,
       )
 
   to_long_targets : (s : State) (off : PutOff) (more_aside : List Item) (more_off : PutOff) (h : Graph) → looks_again off ≡ false → (w : SettlesLast E word_of value b before s) → waiting.Marking E word_of value clearly rows w.marked [] (all_off off) off.again h
@@ -286,70 +309,75 @@ module _ (E : Type 0) (word_of : ℕ → Option ℕ) (value : Map Object → ℕ
   behind_on : (moment : Moment) (s : State) (kept aside : List Item) (off : PutOff) (h : Graph) → looks_again off ≡ false → IsSettling E word_of value b before moment (Values moment) s kept [] aside off h
       → IsAfter E word_of value b before begin.from (next_phase (Values moment) false) s kept aside off h
   behind_on moments.First s kept aside off h over p = absurd p
-  behind_on moments.Led s kept aside off h over (w, p) = λ told none items is. to_again s aside off [] none_off h over w p items is
-  behind_on moments.Picked s kept aside off h over (w, p) = λ told none items is. to_late_again s aside off [] none_off h over w p items is
-  behind_on moments.Last s kept aside off h over (w, p) = λ told true_words items are. to_long_targets s off [] none_off h over w p told true_words items are
+  behind_on moments.Led s kept aside off h over (w, p) = λ told none items is. to_again s aside off [] off h over w p items is
+  behind_on moments.Picked s kept aside off h over (w, p) = λ told none items is. to_late_again s aside off [] off h over w p items is
+  behind_on moments.Last s kept aside off h over (w, p) = λ told true_words items are. to_long_targets s off [] off h over w p told true_words items are
+
+  -- each ephemeron is put off then, or is past
+  pub settled_all : (moment : Moment) (s : State) (kept aside : List Item) (off : PutOff) (h : Graph) → IsSettling E word_of value b before moment (Values moment) s kept [] aside off h → AreOff E word_of value s off h
+  settled_all moments.First s kept aside off h p = absurd p
+  settled_all moments.Led s kept aside off h (w, p) = looked_all E word_of value clearly rows w.marked s off h (ap (λ (t : State). t.ephemerons) w.state) p
+  settled_all moments.Picked s kept aside off h (w, p) = looked_all E word_of value clearly rows w.marked s off h (ap (λ (t : State). t.ephemerons) w.state) p
+  settled_all moments.Last s kept aside off h (w, p) = looked_all E word_of value clearly rows w.marked s off h (ap (λ (t : State). t.ephemerons) w.state) p
 
   -- ---- all phases
 
-  pub turn : (phase : Phase) (s : State) (kept aside : List Item) (off : PutOff) (h : Graph) → At phase s kept [] aside off h → IsAfter E word_of value b before begin.from (next_phase phase (looks_again off)) s kept aside off h
-  turn (Keys moment) s kept aside off h p = λ told none items is. on_holders moment s kept aside off h p items is
-  turn (KeysAgain moment) s kept aside off h p = λ told none items is. again_holders moment s kept aside off h p items is
-  turn (Holders moment) s kept aside off h p = λ told none items is. on_values moment s kept aside off h p items is
-  turn (Values moment) s kept aside off h p = by (looks_again off) refl
+  pub turn : (phase : Phase) (s : State) (kept aside : List Item) (off : PutOff) (h : Graph) → At phase s kept [] aside off h → PartedIn phase s off h → IsAfter E word_of value b before begin.from (next_phase phase (looks_again off)) s kept aside off h
+  turn (Keys moment) s kept aside off h p q = λ told none items is. on_holders moment s kept aside off h p items is
+  turn (KeysAgain moment) s kept aside off h p q = λ told none items is. again_holders moment s kept aside off h p items is
+  turn (Holders moment) s kept aside off h p q = λ told none items is. on_values moment s kept aside off h p items is
+  turn (Values moment) s kept aside off h p q = by (looks_again off) refl
     where
       by : (more : Bool) → looks_again off ≡ more → IsAfter E word_of value b before begin.from (next_phase (Values moment) more) s kept aside off h
       by false over = behind_on moment s kept aside off h over p
       by true again = λ told none items is. on_keys moment s kept aside off h p items is
-  turn (Regions sweep) s kept aside off h p = absurd p
-  turn ShortCleanups s kept aside off h p = absurd p
-  turn ShortTargets s kept aside off h p = λ told none items is. clears_begin E word_of value (λ links. with_links links b.ephemerons.short) before.objects b.short before.marked begin.short s kept items h p.0 is
-  turn ShortWords s kept aside off h p = λ told none items are. to_short_keys s aside off h p items are
-  turn ShortKeys s kept aside off h p = λ told none items is. clears_begin E word_of value (λ keys. with_links shorts keys) begun b.ephemerons.short before.marked (short_key_targets E word_of value b before begin) s kept items h p is
-  turn ShortKeyWords s kept aside off h p = λ told true_words items are. to_objects s aside off h p told true_words items are
-  turn Objects s kept aside off h p = λ told none items is. to_children s kept h p.0 items is
-  turn Children s kept aside off h p = λ told none items are. to_led s kept h p items are
-  turn Again s kept aside off h (l, p) = λ told none items turned. to_picks s kept h l p items turned
-  turn Picks s kept aside off h p = λ told none items are. to_picked s kept h p items are
-  turn LateAgain s kept aside off h (c, p, ordered) = λ told none items is. to_late_picks s kept h c p ordered items is
-  turn LatePicks s kept aside off h p = λ told none items are. to_last s kept h p items are
-  turn LongTargets s kept aside off h (c, p, known) = λ told none items is.
+  turn (Regions sweep) s kept aside off h p q = absurd p
+  turn ShortCleanups s kept aside off h p q = absurd p
+  turn ShortTargets s kept aside off h p q = λ told none items is. clears_begin E word_of value (λ links. with_links links b.ephemerons.short) before.objects b.short before.marked begin.short s kept items h p.0 is
+  turn ShortWords s kept aside off h p q = λ told none items is. to_short_keys s aside off h p q items is
+  turn ShortKeys s kept aside off h p q = λ told none items is. clears_begin E word_of value (λ keys. with_links shorts keys) begun b.ephemerons.short before.marked (short_key_targets E word_of value b before begin) s kept items h p is
+  turn ShortKeyWords s kept aside off h p q = λ told true_words items are. to_objects s aside off h p told true_words items are
+  turn Objects s kept aside off h p q = λ told none items is. to_children s kept h p.0 items is
+  turn Children s kept aside off h p q = λ told none items is. to_led s kept off h p q items is
+  turn Again s kept aside off h (l, p) q = λ told none items turned. to_picks s kept h l p items turned
+  turn Picks s kept aside off h p q = λ told none items is. to_picked s kept off h p q items is
+  turn LateAgain s kept aside off h (c, p, ordered) q = λ told none items is. to_late_picks s kept h c p ordered items is
+  turn LatePicks s kept aside off h p q = λ told none items is. to_last s kept off h p q items is
+  turn LongTargets s kept aside off h (c, p, known) q = λ told none items is.
       (c, clears_begin E word_of value (λ links. after_picks E word_of value b before c shorts links keys b.ephemerons.long) clearly b.long c.kept (long_targets E word_of value b before begin) s kept items h p is)
-  turn LongWords s kept aside off h (c, p) = λ told none items are.
-      let all = clears_all E word_of value (λ links. after_picks E word_of value b before c shorts links keys b.ephemerons.long) clearly b.long c.kept (long_targets E word_of value b before begin) begin.apart s h p in
-      let listed : AreLinks the.target_of [] b.ephemerons.long items = subst (λ (t : State). AreLinks the.target_of [] t.ephemerons.long items) all.0 are in (
+  turn LongWords s kept aside off h (c, p) q = λ told none items is.
+      let all = clears_all E word_of value (λ links. after_picks E word_of value b before c shorts links keys b.ephemerons.long) clearly b.long c.kept (long_targets E word_of value b before begin) begin.apart s h p in (
         c,
-        (targets_begin E word_of value (after_picks E word_of value b before c shorts (long_left E word_of value b before c) keys b.ephemerons.long) (last_links E word_of value b before c) b.ephemerons.long c.kept []
-            (none_known c.kept (λ n. (word : ℕ) × (get b.ephemerons.long word ≡ Some n))) s items h all.0 all.1 all.2 listed).0,
+        keys_begin LongWords s off h q refl Long b.ephemerons.long (ap (λ (t : State). t.ephemerons.long) all.0) items is (last_links E word_of value b before c) c.kept all.1 all.2
+            (after_picks E word_of value b before c shorts (long_left E word_of value b before c) keys b.ephemerons.long) all.0,
       )
-  turn LongKeys s kept aside off h (c, p) = λ told none items is.
+  turn LongKeys s kept aside off h (c, p) q = λ told none items is.
       (c, clears_begin E word_of value (λ others. after_picks E word_of value b before c shorts (long_left E word_of value b before c) keys others) (last_links E word_of value b before c) b.ephemerons.long c.kept (long_key_targets E word_of value b before begin c.kept) s kept items h p is)
-  turn LongKeyWords s kept aside off h (c, p) = λ told true_words items are.
+  turn LongKeyWords s kept aside off h (c, p) q = λ told true_words items are.
       let all = clears_all E word_of value (λ others. after_picks E word_of value b before c shorts (long_left E word_of value b before c) keys others) (last_links E word_of value b before c) b.ephemerons.long c.kept (long_key_targets E word_of value b before begin c.kept) begin.apart s h p in
       let holds = holds_begin E word_of value (λ links. after_picks E word_of value b before c links (long_left E word_of value b before c) keys (long_keys_left E word_of value b before c)) (last E word_of value b before c) shorts c.kept told
       (words_known (λ t. t.short) s _ h (last E word_of value b before c) c.kept told all.0 all.1 all.2 (knows word_of Live (IsOfSweep sweeps.ShortHolders s) h told true_words)) s items h all.0 all.1 all.2
       (subst (λ (t : State). AreLinks the.word_of told t.short items) all.0 are) in
       (c, holds.0, holds.1)
-  turn ShortHolders s kept aside off h (c, p, known) = λ told true_words items are.
+  turn ShortHolders s kept aside off h (c, p, known) q = λ told true_words items are.
       let all = holds_all E word_of value (λ links. after_picks E word_of value b before c links (long_left E word_of value b before c) keys (long_keys_left E word_of value b before c)) (last E word_of value b before c) shorts c.kept s h p in
       let holds = holds_begin E word_of value (λ links. after_picks E word_of value b before c (short_held E word_of value b before c) links keys (long_keys_left E word_of value b before c)) (last E word_of value b before c) (long_left E word_of value b before c) c.kept told
       (words_known (λ t. t.long) s _ h (last E word_of value b before c) c.kept told all.0 all.1 all.2 (knows word_of Live (IsOfSweep sweeps.LongHolders s) h told true_words)) s items h all.0 all.1 all.2
       (subst (λ (t : State). AreLinks the.word_of told t.long items) all.0 are) in
       (c, holds.0, holds.1)
-  turn LongHolders s kept aside off h (c, p, known) = λ told none items are.
+  turn LongHolders s kept aside off h (c, p, known) q = λ told none items is.
       let all = holds_all E word_of value (λ links. after_picks E word_of value b before c (short_held E word_of value b before c) links keys (long_keys_left E word_of value b before c)) (last E word_of value b before c) (long_left E word_of value b before c) c.kept s h p in (
         c,
-        (holds_begin E word_of value (λ others. after_picks E word_of value b before c (short_held E word_of value b before c) (long_held E word_of value b before c) others (long_keys_left E word_of value b before c)) (last E word_of value b before c) keys c.kept []
-            (none_known (λ n. is_held word_of (last E word_of value b before c) c.kept n) (λ n. IsTrue (contains_key keys n))) s items h all.0 all.1 all.2 (subst (λ (t : State). AreLinks the.target_of [] t.ephemerons.short items) all.0 are)).0,
+        key_holders_begin LongHolders s off h q refl Short keys (ap (λ (t : State). t.ephemerons.short) all.0) items is (last E word_of value b before c) c.kept all.1 all.2
+            (λ others. after_picks E word_of value b before c (short_held E word_of value b before c) (long_held E word_of value b before c) others (long_keys_left E word_of value b before c)) all.0,
       )
-  turn ShortKeyHolders s kept aside off h (c, p) = λ told none items are.
+  turn ShortKeyHolders s kept aside off h (c, p) q = λ told none items is.
       let all = holds_all E word_of value (λ others. after_picks E word_of value b before c (short_held E word_of value b before c) (long_held E word_of value b before c) others (long_keys_left E word_of value b before c)) (last E word_of value b before c) keys c.kept s h p in (
         c,
-        (holds_begin E word_of value (λ others. after_picks E word_of value b before c (short_held E word_of value b before c) (long_held E word_of value b before c) (keys_held E word_of value b before c) others) (last E word_of value b before c)
-            (long_keys_left E word_of value b before c) c.kept [] (none_known (λ n. is_held word_of (last E word_of value b before c) c.kept n) (λ n. IsTrue (contains_key (long_keys_left E word_of value b before c) n))) s items h all.0 all.1 all.2
-            (subst (λ (t : State). AreLinks the.target_of [] t.ephemerons.long items) all.0 are)).0,
+        key_holders_begin ShortKeyHolders s off h q refl Long (long_keys_left E word_of value b before c) (ap (λ (t : State). t.ephemerons.long) all.0) items is (last E word_of value b before c) c.kept all.1 all.2
+            (λ others. after_picks E word_of value b before c (short_held E word_of value b before c) (long_held E word_of value b before c) (keys_held E word_of value b before c) others) all.0,
       )
-  turn LongKeyHolders s kept aside off h (c, p) = λ told true_words items are.
+  turn LongKeyHolders s kept aside off h (c, p) q = λ told true_words items are.
       let all = holds_all E word_of value (λ others. after_picks E word_of value b before c (short_held E word_of value b before c) (long_held E word_of value b before c) (keys_held E word_of value b before c) others) (last E word_of value b before c)
       (long_keys_left E word_of value b before c) c.kept s h p in
       let known : Knows c.kept (IsOfSweep sweeps.LongCleanups (passed E word_of value b before c)) told =
@@ -359,7 +387,7 @@ module _ (E : Type 0) (word_of : ℕ → Option ℕ) (value : Map Object → ℕ
       (young_attached E word_of value b before begin c.kept (λ a on. c.settled.more a (c.marks.least a (inl (led_picked E word_of value b before begin c.first a (found_led E word_of value b before begin c.first.leading a on)))))) all.0 all.1 all.2
       (subst (λ (t : State). AreCleanups begin.from told Long t.cleanups items) all.0 are) in
       (c, cleaning.0, cleaning.1)
-  turn LongCleanups s kept aside off h (c, p, known) =
+  turn LongCleanups s kept aside off h (c, p, known) q =
       record { chosen = c; cleaned = cleaning_all E word_of value Long (passed E word_of value b before c) (last E word_of value b before c) c.kept s h p; objects_are = p.objects_are; marks_are = p.marks_are }
 
   -- ---- what is left at the end

@@ -8,22 +8,24 @@ use Rattle.fz_model.specs.State.{Map, Object}
 use Rattle.fz_pass.specs.Holds.{Ephemerons, Holds, IsOfKey, IsOfValue, Member, Settles, no_ephemerons}
 use Rattle.fz_pass.specs.Marks.{IsClosed, Marks}
 use Rattle.fz_pass.specs.Places.{is_held}
-use Rattle.fz_pass.specs.Settling.{IsThrough, Waits}
-use Rattle.fz_pass.proofs.Holding.{holder_of, held_by, held_nowhere, holds_value, whole_from}
+use Rattle.fz_pass.specs.Settling.{Waits}
+use Rattle.fz_pass.proofs.Holding.{holds_value, whole_from}
+use Rattle.fz_finalizers.specs.States.{State}
 use Rattle.fz_machine.specs.declared.item.Item.{Item}
 use Rattle.fz_machine.specs.declared.phase.Phase.{Phase}
 use Rattle.fz_machine.specs.declared.phase.Phase.TheVariants.{Keys, KeysAgain, Holders, Values}
 use Rattle.fz_machine.specs.declared.question.Ask.TheVariants.{IsMarked, IsHolderMarked, MarkValue}
-use Rattle.fz_machine.specs.Graph.{Graph, IsHonest, MayBeAsked}
+use Rattle.fz_machine.specs.Graph.{Graph, IsHonest}
 use Rattle.fz_machine.specs.Items.{AreEphemerons, target_of}
 use Rattle.fz_machine.specs.Machines.{TellsIn}
-use Rattle.fz_machine.specs.Off.{PutOff, is_again, looked_at, looking, looks_again, put_off, stuck_with}
+use Rattle.fz_machine.specs.Off.{PutOff, all_off, is_again, looked_at, looking, looks_again, put_off, stuck_with}
 use Rattle.fz_machine.specs.Phases.{ask_of, keeps, subject}
 use Rattle.fz_machine.proofs.Among.{Each, OneOf, each_append, each_as, each_parts, each_permuted, each_push, one_last, one_left, one_part, one_permuted, one_right}
 use Rattle.fz_machine.proofs.Entered.{links_all, links_each}
 use Rattle.fz_machine.proofs.Phasing.{kept_on}
 use Rattle.fz_machine.proofs.Sifting.{IsAt}
-use Rattle.fz_machine.proofs.Delayed.{all_off, all_with, tells_again, tells_moves}
+use Rattle.fz_machine.proofs.Delayed.{all_with, tells_again, tells_moves}
+use Rattle.fz_machine.proofs.Parted.{AreOff, IsAllowed, IsPast, held_on, past_on}
 
 -- no value was marked
 none_marked : (again answer : Bool) → cond answer true again ≡ false → (answer ≡ false) × (again ≡ false)
@@ -58,10 +60,10 @@ module _ (E : Type 0) (word_of : ℕ → Option ℕ) (value : Map Object → ℕ
     pub off_are : Each IsRow off
     pub waits : again ≡ false → Each (IsWaiting h.marked) off
 
-  -- each ephemeron is kept, remains, is put off or is through
+  -- each ephemeron is kept, remains, is put off or is past
   abbrev AreAll : List Item → List Item → List Item → (ℕ → Bool) → Type 0
   AreAll kept left off m =
-      (word key : ℕ) → IsOfKey ephemerons word key → OneOf (IsAt key word) kept ⊎ (OneOf (IsAt key word) left ⊎ (OneOf (IsAt key word) off ⊎ IsThrough E word_of value objects m (word, key)))
+      (word key : ℕ) → IsOfKey ephemerons word key → OneOf (IsAt key word) kept ⊎ (OneOf (IsAt key word) left ⊎ (OneOf (IsAt key word) off ⊎ IsPast E word_of value objects m (word, key)))
 
   pub record Sweeps (Left Kept : (ℕ → Bool) → Item → Type 0) (kept left off : List Item) (again : Bool) (h : Graph) : Type 0 where
     pub settling : Settling off again h
@@ -93,7 +95,7 @@ module _ (E : Type 0) (word_of : ℕ → Option ℕ) (value : Map Object → ℕ
     }
       where
         by : (word key : ℕ) → OneOf (IsAt key word) (item ∷ left)
-            → OneOf (IsAt key word) (kept ++ item ∷ []) ⊎ (OneOf (IsAt key word) left ⊎ (OneOf (IsAt key word) off ⊎ IsThrough E word_of value objects h.marked (word, key)))
+            → OneOf (IsAt key word) (kept ++ item ∷ []) ⊎ (OneOf (IsAt key word) left ⊎ (OneOf (IsAt key word) off ⊎ IsPast E word_of value objects h.marked (word, key)))
         by word key (inl at) = inl (one_last (IsAt key word) kept item at)
         by word key (inr k) = inr (inl k)
 
@@ -114,7 +116,7 @@ module _ (E : Type 0) (word_of : ℕ → Option ℕ) (value : Map Object → ℕ
     }
       where
         by : (word key : ℕ) → OneOf (IsAt key word) (item ∷ left)
-            → OneOf (IsAt key word) kept ⊎ (OneOf (IsAt key word) left ⊎ (OneOf (IsAt key word) (off ++ item ∷ []) ⊎ IsThrough E word_of value objects h.marked (word, key)))
+            → OneOf (IsAt key word) kept ⊎ (OneOf (IsAt key word) left ⊎ (OneOf (IsAt key word) (off ++ item ∷ []) ⊎ IsPast E word_of value objects h.marked (word, key)))
         by word key (inl at) = inr (inr (inl (one_last (IsAt key word) off item at)))
         by word key (inr k) = inr (inl k)
 
@@ -151,7 +153,7 @@ module _ (E : Type 0) (word_of : ℕ → Option ℕ) (value : Map Object → ℕ
 
   -- a holder stays marked
   held_still : (now new : ℕ → Bool) → ((a : ℕ) → IsTrue (now a) → IsTrue (new a)) → (w : ℕ) → IsTrue (is_held word_of objects now w) → IsTrue (is_held word_of objects new w)
-  held_still now new on w held = ⊎_elim (held_nowhere word_of value objects new w) (λ (o, holder, was). held_by word_of value objects new w o holder (on o was)) (holder_of word_of value objects now w held)
+  held_still now new on w held = held_on E word_of value objects objects now new on (λ a. refl) w held
 
   no_row : (word key : ℕ) → ephemerons ≡ no_ephemerons → IsOfKey ephemerons word key → ⊥
   no_row word key none = ⊎_elim (λ here. none-some key (sym (ap (λ (e : Ephemerons). get e.short word) none ∙ get-empty nat_cmp word) ∙ here)) (λ here. none-some key (sym (ap (λ (e : Ephemerons). get e.long word) none ∙ get-empty nat_cmp word) ∙ here))
@@ -180,12 +182,14 @@ module _ (E : Type 0) (word_of : ℕ → Option ℕ) (value : Map Object → ℕ
         waits = λ none. let both = none_marked again answer none in each_as (IsWaiting h.marked) (IsWaiting new.marked) (still_waits both.0) off (s.settling.waits both.1);
       };
       left_are = each_as (HasBoth h.marked) (HasBoth new.marked) still_both left s.left_are.1;
-      all = λ word key of. ⊎_elim inl (⊎_elim (by word key) (⊎_elim (λ k. inr (inr (inl k))) (λ on. inr (inr (inr (λ v points. on_still v (on v points))))))) (s.all word key of);
+      all = λ word key of. ⊎_elim inl (⊎_elim (by word key) (⊎_elim (λ k. inr (inr (inl k))) (λ past. inr (inr (inr (past_on E word_of value objects objects h.marked new.marked on_still (λ a. refl) word key (λ v points. points) past)))))) (s.all word key of);
     }
       where
         by : (word key : ℕ) → OneOf (IsAt key word) (item ∷ left)
-            → OneOf (IsAt key word) [] ⊎ (OneOf (IsAt key word) left ⊎ (OneOf (IsAt key word) off ⊎ IsThrough E word_of value objects new.marked (word, key)))
-        by word key (inl at) = inr (inr (inr (λ v points. m.least v (inr (v, ap (value objects) at.1 ∙ points, Itself)))))
+            → OneOf (IsAt key word) [] ⊎ (OneOf (IsAt key word) left ⊎ (OneOf (IsAt key word) off ⊎ IsPast E word_of value objects new.marked (word, key)))
+        by word key (inl at) =
+            let both = still_both item s.left_are.0 in
+            inr (inr (inr (ap new.marked (sym at.0) ∙ both.0.1, ap (is_held word_of objects new.marked) (sym at.1) ∙ both.1, λ v points. m.least v (inr (v, ap (value objects) at.1 ∙ points, Itself)))))
         by word key (inr k) = inr (inl k)
 
   values_on : (left : List Item) (off : PutOff) (item : Item) (h new : Graph) → Marking (item ∷ left) (all_off off) off.again h → (answer : Bool) → IsHonest E word_of value (Some MarkValue) item.word h answer new
@@ -207,7 +211,7 @@ module _ (E : Type 0) (word_of : ℕ → Option ℕ) (value : Map Object → ℕ
   looks_on (Values moment) kept left off item h new s answer honest = values_on left off item h new s answer honest
   looks_on phase kept left off item h new s answer honest = absurd s
 
-  pub looks_may : (phase : Phase) (kept left : List Item) (off : PutOff) (item : Item) (h : Graph) → Looks phase kept (item ∷ left) off h → MayBeAsked (ask_of phase item) (subject phase item) h
+  pub looks_may : (phase : Phase) (kept left : List Item) (off : PutOff) (item : Item) (h : Graph) → Looks phase kept (item ∷ left) off h → IsAllowed (ask_of phase item) (subject phase item) h
   looks_may (Keys moment) kept left off item h s = tt
   looks_may (KeysAgain moment) kept left off item h s = tt
   looks_may (Holders moment) kept left off item h s = tt
@@ -241,8 +245,10 @@ module _ (E : Type 0) (word_of : ℕ → Option ℕ) (value : Map Object → ℕ
 
   -- ---- from phase to phase
 
-  pub looks_begin : (items : List Item) (h : Graph) → h.objects ≡ objects → h.marked ≡ old → IsClosed objects old → AreEphemerons ephemerons items → Sweeps (λ m. IsRow) HasKey [] items [] false h
-  looks_begin items h objects_are marks_are closed (shorts, longs, short_are, long_are, is) = record {
+  -- some are listed, and the others are past
+  pub looks_begin : (items : List Item) (h : Graph) → h.objects ≡ objects → h.marked ≡ old → IsClosed objects old → Each IsRow items → ((word key : ℕ) → IsOfKey ephemerons word key → OneOf (IsAt key word) items ⊎ IsPast E word_of value objects h.marked (word, key))
+      → Sweeps (λ m. IsRow) HasKey [] items [] false h
+  looks_begin items h objects_are marks_are closed are all = record {
     settling = record {
       objects_are = objects_are;
       closed = subst (IsClosed objects) (sym marks_are) closed;
@@ -253,12 +259,25 @@ module _ (E : Type 0) (word_of : ℕ → Option ℕ) (value : Map Object → ℕ
       waits = λ _. tt;
     };
     kept_are = tt;
-    left_are = subst (Each IsRow) (sym is)
-        (each_append IsRow shorts longs (each_as (λ i. get ephemerons.short i.word ≡ Some i.object) IsRow (λ i here. inl here) shorts (links_each target_of [] ephemerons.short shorts short_are))
-        (each_as (λ i. get ephemerons.long i.word ≡ Some i.object) IsRow (λ i here. inr here) longs (links_each target_of [] ephemerons.long longs long_are)));
-    all = λ word key of. inr (inl (subst (OneOf (IsAt key word)) (sym is)
-        (⊎_elim (λ here. one_left (IsAt key word) shorts longs (links_all target_of [] ephemerons.short shorts short_are key word here refl)) (λ here. one_right (IsAt key word) shorts longs (links_all target_of [] ephemerons.long longs long_are key word here refl)) of)));
+    left_are = are;
+    all = λ word key of. inr (⊎_elim inl (λ past. inr (inr past)) (all word key of));
   }
+
+  -- or all are listed
+  pub looks_first : (items : List Item) (h : Graph) → h.objects ≡ objects → h.marked ≡ old → IsClosed objects old → AreEphemerons ephemerons items → Sweeps (λ m. IsRow) HasKey [] items [] false h
+  looks_first items h objects_are marks_are closed (shorts, longs, short_are, long_are, is) =
+      looks_begin items h objects_are marks_are closed
+      (subst (Each IsRow) (sym is)
+      (each_append IsRow shorts longs (each_as (λ i. get ephemerons.short i.word ≡ Some i.object) IsRow (λ i here. inl here) shorts (links_each target_of [] ephemerons.short shorts short_are))
+      (each_as (λ i. get ephemerons.long i.word ≡ Some i.object) IsRow (λ i here. inr here) longs (links_each target_of [] ephemerons.long longs long_are))))
+      (λ word key of. inl (subst (OneOf (IsAt key word)) (sym is)
+      (⊎_elim (λ here. one_left (IsAt key word) shorts longs (links_all target_of [] ephemerons.short shorts short_are key word here refl)) (λ here. one_right (IsAt key word) shorts longs (links_all target_of [] ephemerons.long longs long_are key word here refl)) of)))
+
+  -- once all were looked at, each is put off or is past
+  pub looked_all : (s : State) (off : PutOff) (h : Graph) → s.ephemerons ≡ ephemerons → Marking [] (all_off off) off.again h → AreOff E word_of value s off h
+  looked_all s off h same p word key of =
+      subst (λ (m : Map Object). OneOf (IsAt key word) (all_off off) ⊎ IsPast E word_of value m h.marked (word, key)) (sym p.settling.objects_are)
+      (⊎_elim (λ k. absurd k) (⊎_elim (λ k. absurd k) (λ k. k)) (p.all word key (subst (λ (e : Ephemerons). IsOfKey e word key) same of)))
 
   pub to_holders : (kept items : List Item) (off : PutOff) (h : Graph) → Sweeps (λ m. IsRow) HasKey kept [] (all_off off) off.again h → items ≡ kept → Sweeps HasKey HasBoth [] items (all_off off) off.again h
   to_holders kept items off h s is = record {
@@ -321,6 +340,6 @@ module _ (E : Type 0) (word_of : ℕ → Option ℕ) (value : Map Object → ℕ
   is_settled off h over s = record {
     more = s.settling.more;
     whole = whole_from word_of value objects (IsOfKey ephemerons) h.marked s.settling.closed
-        (λ word key of on held v points. ⊎_elim (λ k. absurd k) (⊎_elim (λ k. absurd k) (⊎_elim (λ k. absurd (waiting_row h.marked word key (all_off off) (s.settling.waits (not_again off.again off.told over)) k on held)) (λ through. through v points))) (s.all word key of));
+        (λ word key of on held v points. ⊎_elim (λ k. absurd k) (⊎_elim (λ k. absurd k) (⊎_elim (λ k. absurd (waiting_row h.marked word key (all_off off) (s.settling.waits (not_again off.again off.told over)) k on held)) (λ past. past.2 v points))) (s.all word key of));
     most = s.settling.most;
   }

@@ -12,6 +12,7 @@ use Rattle.fz_finalizers.specs.Follows.{Event, Follows, queued_attached, queued_
 use Rattle.fz_finalizers.specs.Kinds.{is_late}
 use Rattle.fz_finalizers.specs.States.{State, is_held}
 use Rattle.fz_machine.specs.declared.item.Item.{Item}
+use Rattle.fz_machine.specs.declared.phase.Moment.TheVariants.{First}
 use Rattle.fz_machine.specs.declared.phase.Phase.{Phase}
 use Rattle.fz_machine.specs.declared.phase.Phase.TheVariants.{Keys, KeysAgain, Holders, Values, Regions, ShortCleanups, ShortTargets, ShortWords, ShortKeys, ShortKeyWords, Objects, Children, Again, Picks, LateAgain, LatePicks, LongTargets, LongWords, LongKeys, LongKeyWords, ShortHolders, LongHolders, ShortKeyHolders, LongKeyHolders, LongCleanups}
 use Rattle.fz_machine.specs.Machines as machines
@@ -115,6 +116,7 @@ module _ (taken : ℕ) (held : List Entry) where
   heard_apart phase regions (Words words) g = refl
 
   lists_apart : (phase : Phase) (from : ℕ) (told : List (ℕ × ℕ)) (s : State) (kept items : List Item) → Lists phase from told s kept items → Lists phase from told (apart s) kept items
+  lists_apart (Keys First) from told s kept items is = is
   lists_apart (Keys moment) from told s kept items is = is
   lists_apart (KeysAgain moment) from told s kept items is = is
   lists_apart (Holders moment) from told s kept items is = is

@@ -12,8 +12,8 @@ use Rattle.fz_machine.specs.declared.phase.Phase.TheVariants.{Keys, KeysAgain, H
 use Rattle.fz_machine.specs.declared.phase.Sweep.{Sweep}
 use Rattle.fz_machine.specs.declared.phase.Sweep.TheVariants as sweeps
 use Rattle.fz_machine.specs.declared.item.Item.{Item}
-use Rattle.fz_machine.specs.Off.{count_off, none_off}
-use Rattle.fz_machine.specs.Phases.{asks, settles_in, swept}
+use Rattle.fz_machine.specs.Off.{count_off}
+use Rattle.fz_machine.specs.Phases.{asks, settles, settles_in, swept}
 use Rattle.fz_machine.specs.Regions.{Regions as Table, AreNoted, IsTold, IsUntold, KeepsTable, index_of, most_of, table_at}
 use Rattle.fz_machine.specs.Steps.{Going}
 use Rattle.fz_machine.specs.Walks.{Walk}
@@ -55,10 +55,18 @@ pub record HaveRoom (settling : Bool) (s : State) (walk : Walk) : Type 0 where
   pub rows : ephemerons_in s ≤ (if settling then walk.room else walk.other)
   pub off : ephemerons_in s ≤ walk.off_room
 
--- what remains and what is kept can be put off, too
+-- how many ephemerons a pass may still look at: those that are put off, and while the marks are made whole, what is kept and what remains
+abbrev pub rows_of : Bool → Walk → ℕ
+rows_of settling walk = (if settling then length walk.kept + length walk.left else 0) + count_off walk.off
+
+-- each list has room for them, and all of them can be put off
 abbrev pub HasRoomOff : Bool → Walk → Type 0
-HasRoomOff settling walk =
-    IsTrue settling → (length walk.kept + length walk.left + count_off walk.off ≤ walk.room) × (length walk.kept + length walk.left + count_off walk.off ≤ walk.off_room)
+HasRoomOff settling walk = (rows_of settling walk ≤ walk.room) × (rows_of settling walk ≤ walk.other) × (rows_of settling walk ≤ walk.off_room)
+
+-- between passes it looks at none
+abbrev pub HasRoomOffIn : Option Phase → Walk → Type 0
+HasRoomOffIn (Some phase) walk = HasRoomOff (settles phase) walk
+HasRoomOffIn None walk = Unit {0}
 
 -- whether a sweep asks about regions, if those are noted
 abbrev pub is_by : Sweep → By → Bool
@@ -147,7 +155,7 @@ pub record AreTables (s : State) (tables : List Table) (phase : Option Phase) : 
 -- the invariant of a machine: its lists have room, and there is a table for each sweep
 pub record IsInOrder (s : State) (walk : Walk) (regions : List Table) (phase : Option Phase) : Type 0 where
   pub room : HaveRoom (settles_in phase) s walk
-  pub room_off : HasRoomOff (settles_in phase) walk
+  pub room_off : HasRoomOffIn phase walk
   pub tables : AreTables s regions phase
 
 -- what a sweep is about is asked about item by item only if not all of it is noted
@@ -212,7 +220,7 @@ HasAsk phase items regions = (item : Item) × (slice_get items 0 ≡ Some item) 
 
 -- nothing is listed in a sweep; before two of them the marks were made whole
 abbrev pub resumed : Walk → Walk
-resumed walk = record { kept = []; left = []; aside = []; off = none_off; room = walk.other; other = walk.room; off_room = walk.off_room }
+resumed walk = record { kept = []; left = []; aside = []; off = walk.off; room = walk.other; other = walk.room; off_room = walk.off_room }
 
 abbrev pub emptied : Sweep → Walk → Walk
 emptied sweeps.ShortCleanups walk = resumed walk

@@ -7,7 +7,7 @@ use Rattle.fz_model.specs.Bits.{has_bit}
 use Rattle.fz_model.specs.Memory.{points}
 use Rattle.fz_model.specs.Reachability.{Leads}
 use Rattle.fz_model.specs.State.{Map, Object}
-use Rattle.fz_pass.specs.Holds.{IsOfValue}
+use Rattle.fz_pass.specs.Holds.{Ephemerons, IsOfKey, IsOfValue}
 use Rattle.fz_pass.specs.Marks.{IsClosed, Marks, IsLeadingBut, IsLastToMark, AreRegistered, AreTargets}
 use Rattle.fz_pass.specs.Places.{StandApart, written_at, is_held}
 use Rattle.fz_finalizers.specs.declared.cleanups.Attached.{Attached}
@@ -89,8 +89,15 @@ AreHonestWords place ask IsAskedFor g (r ∷ told) = IsHonestWord place ask IsAs
 abbrev pub no_value : Map Object → ℕ → Option ℕ
 no_value objects word = None
 
--- when a pass may begin: marking is complete, registered objects, targets of links and keys are objects of the graph, and no two links denote one word
-pub record MayBegin (place : ℕ → Option ℕ) (s : State) (g : Graph) : Type 0 where
+-- clearing a word gives no ephemeron another value: it leaves the value, or takes it away. A cleared word points to nothing
+abbrev pub KeepsValues : (ℕ → Option ℕ) → (Map Object → ℕ → Option ℕ) → Ephemerons → Type 0
+KeepsValues place value ephemerons =
+    (objects : Map Object) (cleared word key first : ℕ) → points objects 0 ≡ None → IsOfKey ephemerons word key
+    → value (written_at place cleared objects) word ≡ Some first → value objects word ≡ Some first
+
+-- when a pass may begin: marking is complete, registered objects, targets of links and keys are objects of the graph, no two links denote one word, and ephemerons keep their
+-- values while words are cleared
+pub record MayBegin (place : ℕ → Option ℕ) (value : Map Object → ℕ → Option ℕ) (s : State) (g : Graph) : Type 0 where
   pub registered : AreRegistered g.objects s.registrations
   pub short : AreTargets g.objects s.short
   pub long : AreTargets g.objects s.long
@@ -101,6 +108,7 @@ pub record MayBegin (place : ℕ → Option ℕ) (s : State) (g : Graph) : Type 
   pub births : (a : ℕ) (o : Object) → get g.objects a ≡ Some o → o.birth ≡ 0  -- no host is asked for births
   pub starts : (a : ℕ) → IsTrue (contains_key g.objects a) → a < 2 ^ 64  -- they are addresses
   pub apart : StandApart place
+  pub values : KeepsValues place value s.ephemerons
 
 -- the objects of registrations and cleanups before this number are marked
 pub record AreOldMarked (from : ℕ) (s : State) (g : Graph) : Type 0 where

@@ -1,15 +1,17 @@
 -- The items that phases process: links, ephemerons, registrations and cleanups.
 -- code: fz_machine/src/item.rt, listing.rt
-use Rattle.std.specs.Prelude.{◌≡◌, ℕ, zero, suc, ◌+◌, ◌*◌, ◌^◌, Bool, false, not, ◌&&◌, if◌then◌else◌, List, [], ◌++◌, filter, map, nat_eq, nat_le, All, refl}
+use Rattle.std.specs.Prelude.{◌≡◌, ℕ, zero, suc, ◌+◌, ◌*◌, ◌^◌, Bool, true, false, not, ◌&&◌, if◌then◌else◌, List, [], ◌++◌, filter, map, nat_eq, nat_le, Option, None, Some, All, refl}
 use Rattle.std.specs.Coded.{Coded, code_by, coded×, coded_ℕ, coded_bool}
 use Rattle.std.specs.List.{IsDistinct}
 use Rattle.std.specs.List.Sorted.{IsPermutation, IsNonDecreasingBy}
 use Rattle.std.specs.Map.{keys_of}
 use Rattle.std.specs.FinMap.{from_entries, retain_keys}
 use Rattle.std.specs.FinSet.{contains}
+use Rattle.std.specs.Option.{option_map_or}
 use Rattle.fz_model.specs.declared.answers.Registration.{Registration}
 use Rattle.fz_model.specs.State.{Map}
 use Rattle.fz_pass.specs.Holds.{Ephemerons}
+use Rattle.fz_pass.specs.Keyed.{ephemeron_at}
 use Rattle.fz_table.specs.declared.stored.Stored.{Stored}
 use Rattle.fz_table.specs.Tabled.{Set, plain}
 use Rattle.fz_model.specs.declared.kinds.LinkKind.{LinkKind}
@@ -63,6 +65,15 @@ AreLinks number told links items =
 -- the items are the ephemerons of both kinds: the short ones, then the long ones
 abbrev pub AreEphemerons : Ephemerons → List Item → Type 0
 AreEphemerons ephemerons items = (shorts : List Item) × (longs : List Item) × AreLinks target_of [] ephemerons.short shorts × AreLinks target_of [] ephemerons.long longs × (items ≡ shorts ++ longs)
+
+-- whether a kind is the one that is wanted, if one is
+abbrev pub is_wanted : Option LinkKind → LinkKind → Bool
+is_wanted None kind = true
+is_wanted (Some wanted) kind = is_when wanted kind
+
+-- whether the item still is an ephemeron, of this kind if one is given: it wasn't ended
+abbrev pub is_still : Option LinkKind → Ephemerons → Item → Bool
+is_still kind ephemerons item = option_map_or (λ (e : LinkKind × ℕ). is_wanted kind e.0 && nat_eq item.object e.1) (ephemeron_at ephemerons item.word) false
 
 -- the items are the registrations from this number on whose objects aren't told marked, each with its flag
 abbrev pub AreObjects : ℕ → List (ℕ × ℕ) → Map Registration → Set → List Item → Type 0

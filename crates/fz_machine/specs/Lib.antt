@@ -5,6 +5,7 @@ pub mod Off
 pub mod Phases
 pub mod Walks
 pub mod Steps
+pub mod Sifts
 pub mod Going
 pub mod Machines
 pub mod Causes

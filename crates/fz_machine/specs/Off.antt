@@ -1,4 +1,4 @@
--- The ephemerons that are put off while the marks are made whole, since a key or a holder isn't marked.
+-- The ephemerons that are put off, since a key or a holder wasn't marked when the marks were made whole.
 -- code: fz_machine/src/rows.rt
 use Rattle.std.specs.Prelude.{◌≡◌, ℕ, ◌+◌, Bool, true, false, not, nat_eq, if◌then◌else◌, List, [], ◌∷◌, ◌++◌, filter, map, length, refl}
 use Rattle.std.specs.Coded.{Coded, code_by, coded×, coded_ℕ, coded_list, coded_bool}
@@ -22,6 +22,10 @@ none_off = record { index = []; stuck = []; told = []; again = false }
 -- how many they are
 abbrev pub count_off : PutOff → ℕ
 count_off off = length off.index + length off.stuck + length off.told
+
+-- all of them: those that were told, those of the index, and those that were put off since
+abbrev pub all_off : PutOff → List Item
+all_off off = off.told ++ (off.index ++ off.stuck)
 
 abbrev pub stuck_with : PutOff → Item → PutOff
 stuck_with off item = record off { stuck = off.stuck ++ item ∷ [] }

@@ -1,6 +1,6 @@
 -- The phases of a pass: each processes a list, with one question for each item.
 -- code: fz_machine/src/phase.rt, listing.rt
-use Rattle.std.specs.Prelude.{◌≡◌, ℕ, Bool, true, false, not, ◌&&◌, if◌then◌else◌, List, [], Option, Some, None, IsFalse}
+use Rattle.std.specs.Prelude.{◌≡◌, ℕ, Bool, true, false, not, ◌&&◌, if◌then◌else◌, List, [], filter, Option, Some, None, IsFalse}
 use Rattle.std.specs.FinMap.{remove}
 use Rattle.fz_model.specs.declared.kinds.LinkKind.TheVariants.{Short, Long}
 use Rattle.fz_finalizers.specs.declared.kinds.Kind.{Kind}
@@ -18,8 +18,8 @@ use Rattle.fz_machine.specs.declared.phase.Sweep.{Sweep}
 use Rattle.fz_machine.specs.declared.phase.Sweep.TheVariants as sweeps
 use Rattle.fz_machine.specs.declared.question.Ask.{Ask}
 use Rattle.fz_machine.specs.declared.question.Ask.TheVariants.{IsMarked, MarkChildren, MarkOthers, Mark, MarkAlone, Clear, IsHolderMarked, Marks, Live, MarkValue}
-use Rattle.fz_machine.specs.Items.{AreCleanups, AreEphemerons, AreLinks, AreObjects, AreInTurn, target_of, word_of}
-use Rattle.fz_machine.specs.Off.{PutOff, none_off, looked_at, looking}
+use Rattle.fz_machine.specs.Items.{AreCleanups, AreEphemerons, AreLinks, AreObjects, AreInTurn, is_still, target_of, word_of}
+use Rattle.fz_machine.specs.Off.{PutOff, all_off, none_off, looked_at, looking}
 
 -- the phase that a sweep comes before
 abbrev pub swept : Sweep → Phase
@@ -244,9 +244,14 @@ after ShortKeyHolders item answer s = if answer then s else without_key s item.w
 after LongKeyHolders item answer s = if answer then s else without_key s item.word
 after LongCleanups item answer s = if answer then s else queued_cleanup s item.word
 
--- the list that a phase gets: what the previous phase kept, what is looked at again, or what was set aside
+-- the list that a phase gets: what the previous phase kept, what is put off, what of it is looked at again, or what was set aside
 abbrev pub given : Phase → List Item → List Item → PutOff → List Item
+given (Keys moment) kept aside off = all_off off
 given (KeysAgain moment) kept aside off = looked_at off
+given ShortKeys kept aside off = all_off off
+given LongKeys kept aside off = all_off off
+given ShortKeyHolders kept aside off = all_off off
+given LongKeyHolders kept aside off = all_off off
 given Again kept aside off = aside
 given LateAgain kept aside off = aside
 given phase kept aside off = kept
@@ -263,15 +268,13 @@ aside_in phase kept aside = aside
 abbrev pub off_in : Phase → PutOff → PutOff
 off_in (Keys moment) off = none_off
 off_in (KeysAgain moment) off = looking off
-off_in (Regions sweeps.ShortCleanups) off = none_off
-off_in Again off = none_off
-off_in LateAgain off = none_off
-off_in (Regions sweeps.LongTargets) off = none_off
 off_in phase off = off
 
--- the list that a phase processes, of registrations and cleanups from a number on, given what was told in the sweep before it and the list that it gets
+-- the list that a phase processes, of registrations and cleanups from a number on, given what was told in the sweep before it and the list that it gets. All ephemerons are
+-- listed at the first moment alone, and later those that are put off: of the others key and holder stay marked, and so does what their values reach
 abbrev pub Lists : Phase → ℕ → List (ℕ × ℕ) → State → List Item → List Item → Type 0
-Lists (Keys moment) from told s given items = AreEphemerons s.ephemerons items
+Lists (Keys First) from told s given items = AreEphemerons s.ephemerons items
+Lists (Keys moment) from told s given items = items ≡ filter (is_still None s.ephemerons) given
 Lists (KeysAgain moment) from told s given items = items ≡ given
 Lists (Holders moment) from told s given items = items ≡ given
 Lists (Values moment) from told s given items = items ≡ given
@@ -279,7 +282,7 @@ Lists (Regions sweep) from told s given items = items ≡ []
 Lists ShortCleanups from told s given items = AreCleanups from told Short s.cleanups items
 Lists ShortTargets from told s given items = AreLinks target_of told s.short items
 Lists ShortWords from told s given items = items ≡ given
-Lists ShortKeys from told s given items = AreLinks target_of [] s.ephemerons.short items
+Lists ShortKeys from told s given items = items ≡ filter (is_still (Some Short) s.ephemerons) given
 Lists ShortKeyWords from told s given items = items ≡ given
 Lists Objects from told s given items = AreObjects from told s.registrations s.late items
 Lists Children from told s given items = items ≡ given
@@ -289,10 +292,10 @@ Lists LateAgain from told s given items = items ≡ given
 Lists LatePicks from told s given items = items ≡ given
 Lists LongTargets from told s given items = AreLinks target_of told s.long items
 Lists LongWords from told s given items = items ≡ given
-Lists LongKeys from told s given items = AreLinks target_of [] s.ephemerons.long items
+Lists LongKeys from told s given items = items ≡ filter (is_still (Some Long) s.ephemerons) given
 Lists LongKeyWords from told s given items = items ≡ given
 Lists ShortHolders from told s given items = AreLinks word_of told s.short items
 Lists LongHolders from told s given items = AreLinks word_of told s.long items
-Lists ShortKeyHolders from told s given items = AreLinks target_of [] s.ephemerons.short items
-Lists LongKeyHolders from told s given items = AreLinks target_of [] s.ephemerons.long items
+Lists ShortKeyHolders from told s given items = items ≡ filter (is_still (Some Short) s.ephemerons) given
+Lists LongKeyHolders from told s given items = items ≡ filter (is_still (Some Long) s.ephemerons) given
 Lists LongCleanups from told s given items = AreCleanups from told Long s.cleanups items

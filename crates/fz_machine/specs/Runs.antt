@@ -51,13 +51,13 @@ pub record MakesPass (Exact : Type 0) (place : ℕ → Option ℕ) (value : Map 
 -- after any calls of the finalizers, a run whose answers and words are true of a graph carries out the pass
 abbrev pub RunsPass : Type 0 → Type 0
 RunsPass Exact = (place : ℕ → Option ℕ) (value : Map Object → ℕ → Option ℕ) (old begun new : Machine) (past : Past) (before after : Graph)
-    → IsReached old.finalizers.state past → IsBegun old begun → MayBegin place old.finalizers.state before → Runs Exact place value begun before new after → new.phase ≡ None
+    → IsReached old.finalizers.state past → IsBegun old begun → MayBegin place value old.finalizers.state before → Runs Exact place value begun before new after → new.phase ≡ None
     → MakesPass Exact place value old.finalizers.state before new.finalizers.state after
 
 -- a pass that looks only at registrations and cleanups from a number on carries out the same, if the objects of the earlier ones are marked
 abbrev pub RunsYoungPass : Type 0 → Type 0
 RunsYoungPass Exact = (from : ℕ) (place : ℕ → Option ℕ) (value : Map Object → ℕ → Option ℕ) (old begun new : Machine) (past : Past) (before after : Graph)
-    → IsReached old.finalizers.state past → IsBegunFrom from old begun → MayBegin place old.finalizers.state before → AreOldMarked from old.finalizers.state before → Runs Exact place value begun before new after → new.phase ≡ None
+    → IsReached old.finalizers.state past → IsBegunFrom from old begun → MayBegin place value old.finalizers.state before → AreOldMarked from old.finalizers.state before → Runs Exact place value begun before new after → new.phase ≡ None
     → MakesPass Exact place value old.finalizers.state before new.finalizers.state after
 
 -- as for `Finalizers::pass`
@@ -71,13 +71,13 @@ pub record MakesPlainPass (Exact : Type 0) (place : ℕ → Option ℕ) (old : S
 -- without ephemerons it carries out a pass that doesn't know of them
 abbrev pub RunsPlainPass : Type 0 → Type 0
 RunsPlainPass Exact = (place : ℕ → Option ℕ) (value : Map Object → ℕ → Option ℕ) (old begun new : Machine) (past : Past) (before after : Graph)
-    → IsReached old.finalizers.state past → old.finalizers.state.ephemerons ≡ no_ephemerons → IsBegun old begun → MayBegin place old.finalizers.state before → Runs Exact place value begun before new after → new.phase ≡ None
+    → IsReached old.finalizers.state past → old.finalizers.state.ephemerons ≡ no_ephemerons → IsBegun old begun → MayBegin place value old.finalizers.state before → Runs Exact place value begun before new after → new.phase ≡ None
     → MakesPlainPass Exact place old.finalizers.state before new.finalizers.state after
 
 -- so does one without ephemerons
 abbrev pub RunsYoungPlainPass : Type 0 → Type 0
 RunsYoungPlainPass Exact = (from : ℕ) (place : ℕ → Option ℕ) (value : Map Object → ℕ → Option ℕ) (old begun new : Machine) (past : Past) (before after : Graph)
-    → IsReached old.finalizers.state past → old.finalizers.state.ephemerons ≡ no_ephemerons → IsBegunFrom from old begun → MayBegin place old.finalizers.state before → AreOldMarked from old.finalizers.state before → Runs Exact place value begun before new after → new.phase ≡ None
+    → IsReached old.finalizers.state past → old.finalizers.state.ephemerons ≡ no_ephemerons → IsBegunFrom from old begun → MayBegin place value old.finalizers.state before → AreOldMarked from old.finalizers.state before → Runs Exact place value begun before new after → new.phase ≡ None
     → MakesPlainPass Exact place old.finalizers.state before new.finalizers.state after
 
 -- the first item may be asked about, known or not, and each later one after true answers about those before it
@@ -90,11 +90,11 @@ AreAskable Exact place value phase (item ∷ items) g =
 -- a host that answers for a graph is asked only what it may be asked
 abbrev pub AsksRightly : Type 0 → Type 0
 AsksRightly Exact = (place : ℕ → Option ℕ) (value : Map Object → ℕ → Option ℕ) (old begun new : Machine) (past : Past) (before after : Graph) (phase : Phase)
-    → IsReached old.finalizers.state past → IsBegun old begun → MayBegin place old.finalizers.state before → Runs Exact place value begun before new after → new.phase ≡ Some phase
+    → IsReached old.finalizers.state past → IsBegun old begun → MayBegin place value old.finalizers.state before → Runs Exact place value begun before new after → new.phase ≡ Some phase
     → AreAskable Exact place value phase new.walk.left after
 
 -- and one that looks only at registrations and cleanups from a number on
 abbrev pub AsksYoungRightly : Type 0 → Type 0
 AsksYoungRightly Exact = (from : ℕ) (place : ℕ → Option ℕ) (value : Map Object → ℕ → Option ℕ) (old begun new : Machine) (past : Past) (before after : Graph) (phase : Phase)
-    → IsReached old.finalizers.state past → IsBegunFrom from old begun → MayBegin place old.finalizers.state before → AreOldMarked from old.finalizers.state before → Runs Exact place value begun before new after → new.phase ≡ Some phase
+    → IsReached old.finalizers.state past → IsBegunFrom from old begun → MayBegin place value old.finalizers.state before → AreOldMarked from old.finalizers.state before → Runs Exact place value begun before new after → new.phase ≡ Some phase
     → AreAskable Exact place value phase new.walk.left after

@@ -1,11 +1,14 @@
 //! The steps of a pass.
 
-ghost use Rattle.std.specs.Prelude.{◌≡◌, ◌≤◌, ◌<◌, ◌∷◌, [], drop, length, is_some, IsTrue};
+ghost use Rattle.std.specs.Prelude.{◌≡◌, ◌≤◌, ◌<◌, ◌∷◌, [], drop, take, length, is_some, IsTrue};
+ghost use Rattle.fz_machine.specs.Asks.{bits_of};
 ghost use Rattle.fz_machine.specs.Off.{put_off};
 ghost use Rattle.fz_machine.specs.Phases.{after, asks, settles};
+ghost use Rattle.fz_machine.specs.Sifts.{keeps_unmarked};
 ghost use Rattle.fz_machine.specs.Steps.{step, steps, skip};
 ghost use Rattle.fz_machine.specs.Going.{going, HasRoomOff, IsSameRoom};
 
+use crate::answers::has_bit;
 use crate::item::Item;
 use crate::phase::Phase;
 use crate::walk::Walk;
@@ -13,6 +16,7 @@ use fz_finalizers::{Finalizers, Kind};
 use fz_model::LinkKind;
 
 /// Carries out what an answer about an item implies for the finalizers.
+#[inline(always)]
 fn act(finalizers: &mut Finalizers, phase: Phase, item: Item, yes: bool)
     ensures { finalizers.new.state ≡ after phase item yes finalizers.old.state }
 {
@@ -49,6 +53,7 @@ fn act(finalizers: &mut Finalizers, phase: Phase, item: Item, yes: bool)
 }
 
 /// Puts an ephemeron off, or notes that its value may have been marked, as the answer implies.
+#[inline(always)]
 fn put_off(walk: &mut Walk, phase: Phase, item: Item, yes: bool)
     requires room { IsTrue (settles phase) → length walk.old.off.stuck < walk.old.off_room }
     ensures off { walk.new ≡ record walk.old { off = put_off phase item yes walk.old.off; off_room = walk.new.off_room } }
@@ -62,6 +67,8 @@ fn put_off(walk: &mut Walk, phase: Phase, item: Item, yes: bool)
 }
 
 /// Processes the answer about the first remaining item.
+// Inlined with what it calls: where a loop names its phase, each step does what this phase does, and tests nothing.
+#[inline(always)]
 fn step(finalizers: &mut Finalizers, walk: &mut Walk, phase: Phase, item: Item, yes: bool)
     requires first { walk.old.left ≡ item ∷ drop 1 walk.old.left }
     requires room { HasRoomOff (settles phase) walk.old }
@@ -89,8 +96,70 @@ pub(crate) fn hear(finalizers: &mut Finalizers, walk: &mut Walk, phase: Phase, a
     }
 }
 
-/// Skips items about which nothing is asked.
-pub(crate) fn skip(finalizers: &mut Finalizers, walk: &mut Walk, phase: Phase)
+/// Processes the answers in a word about the first remaining items, as many as this, one after another.
+#[inline(always)]
+fn hear_each(finalizers: &mut Finalizers, walk: &mut Walk, phase: Phase, bits: u64, count: usize)
+    requires few { count ≤ 64 }
+    requires room { HasRoomOff (settles phase) walk.old }
+    ensures heard { going finalizers.new walk.new [] ≡ steps phase (take count (bits_of bits)) (going finalizers.old walk.old []) }
+    ensures room { HasRoomOff (settles phase) walk.new }
+    ensures same { IsSameRoom walk.old walk.new }
+{
+    let mut place = 0;
+    while place < count {
+        let Some(item) = walk.first() else {
+            return;
+        };
+        step(finalizers, walk, phase, item, has_bit(bits, place));
+        place += 1;
+    }
+}
+
+/// Whether a phase keeps the items whose answers are false, and changes nothing else.
+fn keeps_unmarked(phase: Phase) -> bool
+    ensures { result ≡ keeps_unmarked phase }
+{
+    match phase {
+        Phase::ShortTargets | Phase::LongTargets | Phase::ShortKeys | Phase::LongKeys => true,
+        Phase::Objects | Phase::Again | Phase::LateAgain => true,
+        _ => false,
+    }
+}
+
+/// Processes the answers in a word about the first remaining items, as many as this.
+pub(crate) fn hear_bits(
+    finalizers: &mut Finalizers,
+    walk: &mut Walk,
+    phase: Phase,
+    bits: u64,
+    count: usize,
+)
+    requires few { count ≤ 64 }
+    requires room { HasRoomOff (settles phase) walk.old }
+    ensures heard { going finalizers.new walk.new [] ≡ steps phase (take count (bits_of bits)) (going finalizers.old walk.old []) }
+    ensures room { HasRoomOff (settles phase) walk.new }
+    ensures same { IsSameRoom walk.old walk.new }
+{
+    if keeps_unmarked(phase) {
+        walk.sift(!bits, count);
+        return;
+    }
+    // Each of these is a loop of its own.
+    match phase {
+        Phase::Keys(moment) => hear_each(finalizers, walk, Phase::Keys(moment), bits, count),
+        Phase::KeysAgain(moment) => {
+            hear_each(finalizers, walk, Phase::KeysAgain(moment), bits, count)
+        }
+        Phase::Holders(moment) => hear_each(finalizers, walk, Phase::Holders(moment), bits, count),
+        Phase::Values(moment) => hear_each(finalizers, walk, Phase::Values(moment), bits, count),
+        Phase::Children => hear_each(finalizers, walk, Phase::Children, bits, count),
+        _ => hear_each(finalizers, walk, phase, bits, count),
+    }
+}
+
+/// Skips items about which nothing is asked, one after another.
+#[inline(always)]
+fn skip_each(finalizers: &mut Finalizers, walk: &mut Walk, phase: Phase)
     requires room { HasRoomOff (settles phase) walk.old }
     ensures skipped { going finalizers.new walk.new [] ≡ skip phase (going finalizers.old walk.old []) }
     ensures room { HasRoomOff (settles phase) walk.new }
@@ -101,5 +170,21 @@ pub(crate) fn skip(finalizers: &mut Finalizers, walk: &mut Walk, phase: Phase)
             return;
         }
         step(finalizers, walk, phase, item, false);
+    }
+}
+
+/// Skips items about which nothing is asked.
+pub(crate) fn skip(finalizers: &mut Finalizers, walk: &mut Walk, phase: Phase)
+    requires room { HasRoomOff (settles phase) walk.old }
+    ensures skipped { going finalizers.new walk.new [] ≡ skip phase (going finalizers.old walk.old []) }
+    ensures room { HasRoomOff (settles phase) walk.new }
+    ensures same { IsSameRoom walk.old walk.new }
+{
+    // Each of these is a loop of its own.
+    match phase {
+        Phase::ShortTargets => skip_each(finalizers, walk, Phase::ShortTargets),
+        Phase::Objects => skip_each(finalizers, walk, Phase::Objects),
+        Phase::LongTargets => skip_each(finalizers, walk, Phase::LongTargets),
+        _ => skip_each(finalizers, walk, phase),
     }
 }

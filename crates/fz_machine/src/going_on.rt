@@ -130,20 +130,34 @@ pub(crate) fn go_on(
     }
 }
 
-/// Whether a phase asks this about an item.
+/// Whether two items are of one kind, and the same is known of them.
+#[inline(always)]
+fn are_alike(item: &Item, other: &Item) -> bool
+    ensures { IsTrue result → (item.now.kind ≡ other.now.kind) × (item.now.known ≡ other.now.known) }
+{
+    item.kind == other.kind && item.known == other.known
+}
+
+/// Whether a phase asks about an item what it asks about another.
+#[inline(always)]
 #[tactic(auto, using(crate::proofs::Numbered::same_ask))]
-fn asks_same(phase: Phase, item: &Item, ask: Ask) -> bool
+fn asks_same(phase: Phase, other: &Item, item: &Item, ask: Ask) -> bool
+    requires { asks phase other.now ≡ Some ask }
     ensures same { IsTrue result → asks phase item.now ≡ Some ask }
     ensures other { IsFalse result → asks phase item.now ≡ Some ask → ⊥ }
 {
+    if are_alike(item, other) {
+        return true;
+    }
     match phase.asks(item) {
         Some(asked) => asked.number() == ask.number(),
         None => false,
     }
 }
 
-/// Writes the objects or words of the first items about which a phase asks the same, and returns their number.
-fn gather(phase: Phase, left: &[Item], ask: Ask, about: &mut [Addr; BATCH]) -> usize
+/// Writes the objects or words of the first items about which a phase asks the same as about the first one, and returns their number.
+fn gather(phase: Phase, first: &Item, left: &[Item], ask: Ask, about: &mut [Addr; BATCH]) -> usize
+    requires { asks phase first.now ≡ Some ask }
     ensures few { (result ≤ BATCH) × (result ≤ length left.now) }
     ensures alike { All (λ item. asks phase item ≡ Some ask) (take result left.now) }
     ensures about { take result about.new ≡ map (subject phase) (take result left.now) }
@@ -154,7 +168,7 @@ fn gather(phase: Phase, left: &[Item], ask: Ask, about: &mut [Addr; BATCH]) -> u
         let Some(item) = left.get(count) else {
             return count;
         };
-        if !asks_same(phase, item, ask) {
+        if !asks_same(phase, first, item, ask) {
             return count;
         }
         about[count] = phase.subject(item);
@@ -168,7 +182,8 @@ pub(crate) fn question(phase: Phase, left: &[Item], about: &mut [Addr; BATCH]) -
     requires { (item : Item) × (slice_get left.now 0 ≡ Some item) × IsTrue (is_some (asks phase item)) }
     ensures { IsQuestion phase left.now (record { ask = result.0; about = about.new; count = result.1 }) }
 {
-    let ask = phase.asks(left.first().unwrap()).unwrap();
-    let count = gather(phase, left, ask, about);
+    let first = left.first().unwrap();
+    let ask = phase.asks(first).unwrap();
+    let count = gather(phase, first, left, ask, about);
     (ask, count)
 }

@@ -9,6 +9,9 @@ ghost use Rattle.fz_machine.specs.Runs.{AsksRightly, AsksYoungRightly, RunsPass,
 /// Questions about regions are answered by words (`Machine::next_marks`). A word has to be true of the places of registered objects, of targets of links, of objects of
 /// cleanups or of words of links, as its question is about these; of other places it may say anything.
 ///
+/// An ephemeron whose key, holder and value are marked isn't asked about again. This requires that its value stays: while a pass is open, clearing a word may take a value away,
+/// but gives no ephemeron another one (`KeepsValues`).
+///
 /// If the host marks exactly what it is asked to mark, the run queues and retains exactly what the model does. If it marks more, the run queues no more than
 /// the model, and retains no less.
 pub fn runs_make_the_pass()
@@ -23,11 +26,11 @@ pub fn runs_make_the_plain_pass()
 {}
 
 /// Whatever the host answers and tells, and whatever is taken and finished meanwhile, a pass processes at most six answers for each registration, three for each link and
-/// one for each cleanup; and for `n` ephemerons `3 * n + 4 * n * (2 * n + 1)`. Each of four times the marks are made whole in rounds of at most three answers for each ephemeron
-/// that still waits. A value is asked about once. At most two further rounds follow each round in which a value is asked about: one over the ephemerons whose keys were told,
-/// and one over all that still wait. This bounds answers, not calls: a call of `next` without answers repeats the question, so a host that never answers never reaches the
-/// end. Each question is about at least one item, or about regions, which `region_questions_end` bounds: so a host that answers at least one item of each question about
-/// items reaches the end after at most that many questions, and those about regions.
+/// one for each cleanup; and for `n` ephemerons `11 * n + n * (2 * n + 1)`. An ephemeron whose key, holder and value are marked is asked about three times in a pass. The others
+/// are put off, and the later phases ask about these alone. A value is asked about once. At most two further rounds follow each round in which a value is asked about: one
+/// over the ephemerons whose keys were told, and one over all that still wait. This bounds answers, not calls: a call of `next` without answers repeats the question, so a host
+/// that never answers never reaches the end. Each question is about at least one item, or about regions, which `region_questions_end` bounds: so a host that answers at least
+/// one item of each question about items reaches the end after at most that many questions, and those about regions.
 pub fn passes_end()
     ensures { PassesEnd }
 {}

@@ -7,15 +7,15 @@ ghost use Rattle.fz_finalizers.specs.States.{links_of};
 ghost use Rattle.fz_pass.specs.Keyed.{of_kind};
 ghost use Rattle.fz_finalizers.specs.declared.cleanups.Attached.{Attached};
 ghost use Rattle.fz_finalizers.specs.Cleanups.{is_when};
-ghost use Rattle.fz_machine.specs.Items.{AreCleanups, AreEntriesOf, AreEphemerons, AreLinks, AreObjects, is_listed, link_number, of_cleanup, of_link, of_stored, target_of};
+ghost use Rattle.fz_machine.specs.Items.{AreCleanups, AreEntriesOf, AreEphemerons, AreLinks, AreObjects, is_listed, is_still, is_wanted, link_number, of_cleanup, of_link, of_stored, target_of};
 ghost use Rattle.fz_machine.specs.Going.{ephemerons_in, follows_settling, going, HasRoom, HaveRoom, HasRoomOff, IsListed};
-ghost use Rattle.fz_machine.specs.Off.{none_off};
+ghost use Rattle.fz_machine.specs.Off.{all_off, count_off, none_off};
 ghost use Rattle.fz_machine.specs.Phases.{IsOther, Lists, settles, swept};
 ghost use Rattle.fz_machine.specs.Regions.{IsLooked, IsRenoted, IsTold, IsWhole, attached, is_marked, is_unmarked, link_sweep};
 ghost use Rattle.fz_machine.specs.Steps.{Begins};
 
 use crate::item::Item;
-use crate::phase::{Phase, Sweep};
+use crate::phase::{Moment, Phase, Sweep};
 use crate::regions::Regions;
 use crate::walk::Walk;
 use fz_finalizers::{Attached, Finalizers, Stored};
@@ -134,15 +134,47 @@ fn walk_links(
     walk.put(items);
 }
 
-/// Lists all ephemerons of a kind.
-fn walk_keys(finalizers: &Finalizers, kind: LinkKind, walk: &mut Walk)
-    requires room { ephemerons_in finalizers.now.state ≤ walk.old.room }
-    ensures listed { AreLinks target_of [] (of_kind finalizers.now.ephemerons kind) walk.new.left }
+/// Whether a kind is the one that is wanted, if one is.
+fn is_wanted(wanted: Option<LinkKind>, kind: LinkKind) -> bool
+    ensures { result ≡ is_wanted wanted kind }
+{
+    match (wanted, kind) {
+        (None, _) => true,
+        (Some(LinkKind::Short), LinkKind::Short) | (Some(LinkKind::Long), LinkKind::Long) => true,
+        _ => false,
+    }
+}
+
+/// Whether an item still is an ephemeron, of a kind if one is given: it wasn't ended.
+fn is_still(finalizers: &Finalizers, kind: Option<LinkKind>, item: &Item) -> bool
+    ensures { result ≡ is_still kind finalizers.now.ephemerons item.now }
+{
+    match finalizers.key(item.word) {
+        Some((of, key)) => is_wanted(kind, of) && item.object == key,
+        None => false,
+    }
+}
+
+/// Keeps the remaining items that still are ephemerons, of a kind if one is given.
+fn keep_still(finalizers: &Finalizers, kind: Option<LinkKind>, walk: &mut Walk)
+    ensures kept { walk.new.kept ≡ walk.old.kept ++ filter (is_still kind finalizers.now.ephemerons) walk.old.left }
+    ensures left { walk.new.left ≡ [] }
+    ensures others { walk.new ≡ record walk.old { kept = walk.new.kept; left = walk.new.left } }
+{
+    while let Some(item) = walk.first() {
+        walk.pass_on(item, is_still(finalizers, kind, &item));
+    }
+}
+
+/// Lists the ephemerons that are put off and weren't ended, of a kind if one is given.
+fn walk_off(finalizers: &Finalizers, kind: Option<LinkKind>, walk: &mut Walk)
+    requires room { count_off walk.old.off ≤ walk.old.room }
+    ensures listed { walk.new.left ≡ filter (is_still kind finalizers.now.ephemerons) (all_off walk.old.off) }
     ensures others { IsListed walk.old walk.new }
 {
-    let mut items = walk.take_room();
-    list_ephemerons(finalizers, kind, &mut items);
-    walk.put(items);
+    walk.list_off();
+    keep_still(finalizers, kind, walk);
+    walk.again();
 }
 
 /// Lists all ephemerons.
@@ -252,16 +284,32 @@ fn walk_cleanups(
     walk.put(items);
 }
 
-/// Sets the kept items aside, and lists all ephemerons.
-fn walk_rows(finalizers: &Finalizers, walk: &mut Walk)
+/// Lists all ephemerons at the first moment, and later those that are put off.
+fn list_rows(finalizers: &Finalizers, moment: Moment, walk: &mut Walk)
+    requires room { ephemerons_in finalizers.now.state ≤ walk.old.room }
+    requires off { count_off walk.old.off ≤ walk.old.room }
+    ensures listed { (from : ℕ) → Lists (Phase.Keys moment) from [] finalizers.now.state (all_off walk.old.off) walk.new.left }
+    ensures few { (length walk.new.left ≤ ephemerons_in finalizers.now.state) ⊎ (length walk.new.left ≤ count_off walk.old.off) }
+    ensures others { IsListed walk.old walk.new }
+{
+    match moment {
+        Moment::First => walk_ephemerons(finalizers, walk),
+        Moment::Led | Moment::Picked | Moment::Last => walk_off(finalizers, None, walk),
+    }
+}
+
+/// Sets the kept items aside, and lists all ephemerons at the first moment, and later those that are put off.
+fn walk_rows(finalizers: &Finalizers, moment: Moment, walk: &mut Walk)
     requires room { HaveRoom false finalizers.now.state walk.old }
-    ensures listed { AreEphemerons finalizers.now.ephemerons walk.new.left }
+    requires off { HasRoomOff false walk.old }
+    ensures listed { (from : ℕ) → Lists (Phase.Keys moment) from [] finalizers.now.state (all_off walk.old.off) walk.new.left }
     ensures others { walk.new ≡ record walk.new { kept = []; aside = walk.old.kept; off = none_off } }
     ensures room { HaveRoom true finalizers.now.state walk.new }
     ensures off { HasRoomOff true walk.new }
 {
     walk.set_aside();
-    walk_ephemerons(finalizers, walk);
+    list_rows(finalizers, moment, walk);
+    walk.forget();
 }
 
 /// Lists what a phase behind a sweep processes, of registrations and cleanups those whose numbers are at least `from`.
@@ -300,12 +348,14 @@ pub(crate) fn begin(finalizers: &Finalizers, walk: &mut Walk, phase: Phase)
     ensures off { HasRoomOff (settles phase) walk.new }
 {
     match phase {
-        Phase::Keys(_) => walk_rows(finalizers, walk),
+        Phase::Keys(moment) => walk_rows(finalizers, moment, walk),
         Phase::KeysAgain(_) => walk.look_again(),
         Phase::Holders(_) | Phase::Values(_) => walk.again(),
         Phase::Again | Phase::LateAgain => walk.resume(),
-        Phase::ShortKeys | Phase::ShortKeyHolders => walk_keys(finalizers, LinkKind::Short, walk),
-        Phase::LongKeys | Phase::LongKeyHolders => walk_keys(finalizers, LinkKind::Long, walk),
+        Phase::ShortKeys | Phase::ShortKeyHolders => {
+            walk_off(finalizers, Some(LinkKind::Short), walk);
+        }
+        Phase::LongKeys | Phase::LongKeyHolders => walk_off(finalizers, Some(LinkKind::Long), walk),
         Phase::Picks => walk.again_in_turn(),
         Phase::ShortWords | Phase::ShortKeyWords | Phase::Children => walk.again(),
         Phase::LatePicks | Phase::LongWords | Phase::LongKeyWords => walk.again(),

@@ -7,8 +7,7 @@ ghost use Rattle.fz_machine.specs.Causes.{IsJudgedBy};
 ghost use Rattle.fz_machine.specs.Machines.{Answers, IsBegun, IsBegunFrom, GoesTo, Writes, next_of};
 ghost use Rattle.fz_machine.specs.declared.refused.Refused.TheVariants.{NoPass};
 
-use crate::answers::answers_in;
-use crate::asking::hear;
+use crate::asking::{hear, hear_bits};
 use crate::going_on::{go_on, question};
 use crate::listing::begin;
 use crate::machine::Machine;
@@ -66,6 +65,7 @@ impl Machine {
         let number = self.finalizers.begin_pass();
         self.before = self.finalizers.queued();
         self.walk.clear();
+        self.walk.forget();
         let phase = Phase::Keys(Moment::First);
         begin(&self.finalizers, &mut self.walk, phase);
         self.phase = Some(phase);
@@ -154,7 +154,12 @@ impl Machine {
         ensures goes { IfOk result (λ step. GoesTo self.old (Answers (take self.old.asked (bits_of answers))) self.new (next_of step about.new)) }
         ensures written { IfOk result (λ step. Writes step about.old about.new) }
     {
-        let answers = answers_in(answers, self.asked);
-        self.proceed(&answers, about)
+        let phase = match self.phase {
+            Some(phase) => phase,
+            None => return Err(Refused::NoPass),
+        };
+        let count = BATCH.min(self.asked);
+        hear_bits(&mut self.finalizers, &mut self.walk, phase, answers, count);
+        Ok(self.ask(phase, about))
     }
 }

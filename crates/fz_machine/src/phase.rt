@@ -3,6 +3,7 @@
 ghost use Rattle.std.specs.Prelude.{◌≡◌, is_some, IfSome};
 ghost use Rattle.fz_machine.specs.Regions.{index_of};
 ghost use Rattle.fz_machine.specs.Phases.{behind, next_phase, child_ask, pick_ask, ask_of, asks, is_swept, subject, keeps, settles, swept, sweep_ask};
+ghost use Rattle.fz_machine.specs.Sifts.{is_of_words};
 
 use crate::item::Item;
 use crate::question::Ask;
@@ -101,9 +102,9 @@ impl Sweep {
 /// A phase of a pass. It processes a list, and asks the same about each item of it.
 #[derive(Clone, Copy, Debug, PartialEq, Eq)]
 pub enum Phase {
-    /// Asks which keys of ephemerons are marked, and puts off the others.
+    /// Asks which keys of ephemerons are marked, and puts off the others: of all at the first moment, and later of those that are put off.
     Keys(Moment),
-    /// The same for those that were put off, after values were marked: for those whose keys the host has told, or for all.
+    /// The same for those that were put off at this moment, after values were marked: for those whose keys the host has told, or for all.
     KeysAgain(Moment),
     /// Asks whether the objects that contain the words of those with marked keys are marked, and puts off the others.
     Holders(Moment),
@@ -117,7 +118,7 @@ pub enum Phase {
     ShortTargets,
     /// Clears the words of short links to unmarked targets.
     ShortWords,
-    /// Asks which keys of short ephemerons are marked.
+    /// Asks which keys of short ephemerons that are put off are marked.
     ShortKeys,
     /// Clears the words of short ephemerons with unmarked keys.
     ShortKeyWords,
@@ -137,7 +138,7 @@ pub enum Phase {
     LongTargets,
     /// Clears the words of long links to unmarked targets.
     LongWords,
-    /// Asks which keys of long ephemerons are marked.
+    /// Asks which keys of long ephemerons that are put off are marked.
     LongKeys,
     /// Clears the words of long ephemerons with unmarked keys.
     LongKeyWords,
@@ -145,9 +146,9 @@ pub enum Phase {
     ShortHolders,
     /// The same for long links.
     LongHolders,
-    /// The same for short ephemerons.
+    /// The same for short ephemerons that are put off.
     ShortKeyHolders,
-    /// The same for long ephemerons.
+    /// The same for long ephemerons that are put off.
     LongKeyHolders,
     /// Asks which objects of long cleanups are marked, and queues the cleanups of the others.
     LongCleanups,
@@ -269,23 +270,29 @@ impl Phase {
         }
     }
 
+    /// Whether it asks about the words of items, not about their objects.
+    fn is_of_words(self) -> bool
+        ensures { result ≡ is_of_words self }
+    {
+        match self {
+            Phase::Values(_) | Phase::Holders(_) => true,
+            Phase::ShortWords | Phase::LongWords => true,
+            Phase::ShortKeyWords | Phase::LongKeyWords => true,
+            Phase::ShortHolders | Phase::LongHolders => true,
+            Phase::ShortKeyHolders | Phase::LongKeyHolders => true,
+            _ => false,
+        }
+    }
+
     /// The object or the word that it asks about.
+    #[inline(always)]
     pub(crate) fn subject(self, item: &Item) -> Addr
         ensures { result ≡ subject self item.now }
     {
-        match self {
-            Phase::Keys(_) | Phase::KeysAgain(_) | Phase::Regions(_) => item.object,
-            Phase::Holders(_) | Phase::Values(_) => item.word,
-            Phase::ShortWords | Phase::LongWords => item.word,
-            Phase::ShortKeyWords | Phase::LongKeyWords => item.word,
-            Phase::ShortHolders | Phase::LongHolders => item.word,
-            Phase::ShortKeyHolders | Phase::LongKeyHolders => item.word,
-            Phase::ShortCleanups | Phase::LongCleanups => item.object,
-            Phase::ShortTargets | Phase::LongTargets => item.object,
-            Phase::ShortKeys | Phase::LongKeys => item.object,
-            Phase::Objects | Phase::Children | Phase::Again => item.object,
-            Phase::Picks | Phase::LateAgain | Phase::LatePicks => item.object,
+        if self.is_of_words() {
+            return item.word;
         }
+        item.object
     }
 
     /// Whether the next phase processes the item, too, given the answer.

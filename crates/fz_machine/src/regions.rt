@@ -1,6 +1,6 @@
 //! Where the objects and the words of items may lie, and what was told about them.
 
-ghost use Rattle.std.specs.Prelude.{◌≡◌, ◌≤◌, ◌<◌, ◌+◌, ◌*◌, ◌^◌, ◌++◌, ℕ, [], ◌∷◌, nat_eq, min, drop, take, length, zip, slice_get, is_some, All, IsOk, IsTrue, IsFalse, OnOk, OnSome};
+ghost use Rattle.std.specs.Prelude.{◌≡◌, ◌≤◌, ◌<◌, ◌+◌, ◌*◌, ◌^◌, ◌++◌, ℕ, [], ◌∷◌, nat_eq, min, drop, take, length, zip, slice_get, is_some, All, Some, IsOk, IsTrue, IsFalse, IfSome, OnOk, OnSome};
 ghost use Rattle.std.specs.Map.{keys_of, lookup};
 ghost use Rattle.fz_machine.specs.declared.question.TheConstants.{BATCH};
 ghost use Rattle.fz_machine.specs.Regions.{place_in, region_of, is_marked, is_unmarked, begun, stopped, IsNoted, IsLooked, IsUntold, IsWhole, KeepsTable};
@@ -58,6 +58,8 @@ pub struct Noted {
 /// The regions that a sweep asks about, each with a bit for each place where an object, or a word, may lie.
 pub(crate) struct Regions {
     noted: IndexMap<Addr, Noted, AddressHasher>,
+    /// The index at which a region was found last. What is noted next often lies in the same one.
+    last: usize,
     /// Whether all is noted that the sweep is about. If not, it asks about no regions.
     complete: bool,
     /// In an open sweep: how many regions it asks about, the first ones, and of how many of them it was told.
@@ -72,6 +74,7 @@ impl Drop for Regions {
     fn drop(self) {
         let Regions {
             noted: _,
+            last: _,
             complete: _,
             end: _,
             heard: _,
@@ -107,6 +110,7 @@ impl Regions {
     {
         Regions {
             noted: IndexMap::with_hasher(alloc, AddressHasher::new()),
+            last: 0,
             complete,
             end: 0,
             heard: 0,
@@ -126,7 +130,31 @@ impl Regions {
         self.complete
     }
 
+    /// Whether a region is the one at an index.
+    #[inline(always)]
+    fn is_at(&self, index: usize, region: Addr) -> bool
+        ensures { IsTrue result → slice_get (keys_of self.now.order) index ≡ Some region }
+    {
+        match self.noted.get_index(index) {
+            Some((found, _)) => *found == region,
+            None => false,
+        }
+    }
+
+    /// The index of a region, if it is there. The one that was found last is looked at first.
+    #[inline(always)]
+    fn index_of(&self, region: Addr) -> Option<usize>
+        ensures found { IfSome result (λ index. slice_get (keys_of self.now.order) index ≡ Some region) }
+        ensures there { is_some result ≡ is_some (lookup (nat_eq region) self.now.order) }
+    {
+        if self.is_at(self.last, region) {
+            return Some(self.last);
+        }
+        self.noted.get_index_of(&region)
+    }
+
     /// Sets the bit of an object or a word, if its region is there, and returns the word that was told of the region.
+    #[inline(always)]
     fn place(&mut self, n: Addr) -> Option<u64>
         ensures same { self.new ≡ record self.old { order = self.new.order } }
         ensures keys { keys_of self.new.order ≡ keys_of self.old.order }
@@ -137,11 +165,13 @@ impl Regions {
     {
         let region = region_of(n);
         let place = bit(place_in(n));
-        let Some(noted) = self.noted.get_mut(&region) else {
+        let Some(index) = self.index_of(region) else {
             return None;
         };
+        self.last = index;
+        let noted = self.noted[index];
         let told = noted.told;
-        *noted = Noted {
+        self.noted[index] = Noted {
             places: noted.places | place,
             told,
         };

@@ -1,9 +1,9 @@
-//! The ephemerons that are put off while the marks are made whole.
+//! The ephemerons that are put off.
 
 ghost use Rattle.std.specs.Prelude.{◌≡◌, ◌≤◌, ◌<◌, ◌+◌, ◌++◌, ◌∷◌, [], filter, map, min, nat_eq, nat_lt, length, slice_get, vec_len, vec_capacity, true, None, IfSome, OnOk};
 ghost use Rattle.std.specs.List.Sorted.{IsNonDecreasingBy};
 ghost use Rattle.fz_machine.specs.declared.rows.Row.{Row};
-ghost use Rattle.fz_machine.specs.Off.{IsIndexed, TellsOff, count_off, fresh, key_of, looked_at, looking, looks_again, none_off, of_row, stuck_with, tell_row, untold};
+ghost use Rattle.fz_machine.specs.Off.{IsIndexed, TellsOff, all_off, count_off, fresh, key_of, looked_at, looking, looks_again, none_off, of_row, stuck_with, tell_row, untold};
 
 use crate::item::Item;
 use crate::listing::put;
@@ -19,7 +19,7 @@ pub struct Row {
     pub told: bool,
 }
 
-/// The ephemerons that are put off while the marks are made whole, since a key or a holder isn't marked.
+/// The ephemerons that are put off, since a key or a holder wasn't marked when the marks were made whole. They stay from one time to the next.
 #[derive(Drop)]
 pub struct Rows {
     /// Those whose keys the host can tell, and those that it has told since: sorted by key.
@@ -90,6 +90,17 @@ fn put_untold(index: &[Row], items: &mut Vec<Item>)
 {
     for row in index {
         put_row(*row, items);
+    }
+}
+
+/// Appends ephemerons to a list, which has room for them.
+fn put_items(from: &[Item], items: &mut Vec<Item>)
+    requires room { vec_len items.old + length from.now ≤ vec_capacity items.old }
+    ensures listed { items.new.items ≡ items.old.items ++ from.now }
+    ensures room { vec_capacity items.old ≤ vec_capacity items.new }
+{
+    for item in from {
+        put(items, *item);
     }
 }
 
@@ -228,6 +239,17 @@ impl Rows {
         mem::swap(items, &mut self.stuck);
         put_untold(&self.index, items);
         self.clear();
+    }
+
+    /// Appends all that are put off to a list, which has room for them.
+    pub(crate) fn put_all(&self, items: &mut Vec<Item>)
+        requires room { vec_len items.old + count_off self.now.off ≤ vec_capacity items.old }
+        ensures listed { items.new.items ≡ items.old.items ++ all_off self.now.off }
+        ensures room { vec_capacity items.old ≤ vec_capacity items.new }
+    {
+        put_items(&self.told, items);
+        put_untold(&self.index, items);
+        put_items(&self.stuck, items);
     }
 
     /// If the index is used up, makes one of those that were put off since.

@@ -1,11 +1,14 @@
 //! The list that a phase processes, and the lists beside it.
 
-ghost use Rattle.std.specs.Prelude.{◌≡◌, ◌≤◌, ◌<◌, ◌+◌, ◌^◌, ◌++◌, ◌∷◌, [], if◌then◌else◌, min, drop, length, slice_get, vec_capacity, true, OnOk, OnErr};
+ghost use Rattle.std.specs.Prelude.{◌≡◌, ◌≤◌, ◌<◌, ◌+◌, ◌^◌, ◌++◌, ◌∷◌, [], if◌then◌else◌, min, drop, take, length, slice_get, vec_capacity, true, OnOk, OnErr};
+ghost use Rattle.fz_machine.specs.Asks.{bits_of};
 ghost use Rattle.fz_machine.specs.Going.{KeepsBeside};
 ghost use Rattle.fz_machine.specs.Items.{AreInTurn, place_of};
-ghost use Rattle.fz_machine.specs.Off.{TellsOff, count_off, looked_at, looking, looks_again, none_off, stuck_with};
+ghost use Rattle.fz_machine.specs.Off.{TellsOff, all_off, count_off, looked_at, looking, looks_again, none_off, stuck_with};
 ghost use Rattle.fz_machine.specs.Phases.{settles};
+ghost use Rattle.fz_machine.specs.Sifts.{chosen};
 
+use crate::answers::choose;
 use crate::item::Item;
 use crate::phase::Phase;
 use crate::rows::{Rows, make_room};
@@ -143,6 +146,7 @@ impl Walk {
     }
 
     /// The first remaining item.
+    #[inline(always)]
     pub(crate) fn first(&self) -> Option<Item>
         ensures { result ≡ slice_get self.now.left 0 }
     {
@@ -157,6 +161,7 @@ impl Walk {
     }
 
     /// Moves past the first remaining item, and keeps it or not.
+    #[inline(always)]
     #[tactic(auto, using(crate::proofs::Kept::passed, crate::proofs::Kept::passed_set))]
     pub(crate) fn pass_on(&mut self, item: Item, keep: bool)
         requires first { self.old.left ≡ item ∷ drop 1 self.old.left }
@@ -171,6 +176,19 @@ impl Walk {
         self.items[self.kept] = item;
         self.kept += 1;
         self.place += 1;
+    }
+
+    /// Moves past the first remaining items, as many as this, and keeps those whose bits are set.
+    pub(crate) fn sift(&mut self, bits: u64, count: usize)
+        requires { count ≤ 64 }
+        ensures kept { self.new.kept ≡ self.old.kept ++ chosen (take count (bits_of bits)) self.old.left }
+        ensures left { self.new.left ≡ drop count self.old.left }
+        ensures others { self.new ≡ record self.old { kept = self.new.kept; left = self.new.left } }
+    {
+        let few = count.min(self.items.len() - self.place);
+        let kept = choose(&mut self.items, self.kept, self.place, bits, few);
+        self.kept = kept;
+        self.place += few;
     }
 
     /// Puts an ephemeron off. There is room for it.
@@ -208,23 +226,21 @@ impl Walk {
 
     /// Sets the kept items aside, and lists none.
     pub(crate) fn set_aside(&mut self)
-        ensures { self.new ≡ record { kept = []; left = []; aside = self.old.kept; off = none_off; room = self.old.other; other = self.old.room; off_room = self.old.off_room } }
+        ensures { self.new ≡ record { kept = []; left = []; aside = self.old.kept; off = self.old.off; room = self.old.other; other = self.old.room; off_room = self.old.off_room } }
     {
         self.items.truncate(self.kept);
         mem::swap(&mut self.items, &mut self.aside);
         self.items.clear();
-        self.rows.clear();
         self.kept = 0;
         self.place = 0;
     }
 
     /// Starts again with the items that were set aside.
     pub(crate) fn resume(&mut self)
-        ensures { self.new ≡ record { kept = []; left = self.old.aside; aside = []; off = none_off; room = self.old.other; other = self.old.room; off_room = self.old.off_room } }
+        ensures { self.new ≡ record { kept = []; left = self.old.aside; aside = []; off = self.old.off; room = self.old.other; other = self.old.room; off_room = self.old.off_room } }
     {
         mem::swap(&mut self.items, &mut self.aside);
         self.aside.clear();
-        self.rows.clear();
         self.kept = 0;
         self.place = 0;
     }
@@ -250,6 +266,25 @@ impl Walk {
         self.kept = 0;
         self.place = 0;
         self.rows.look(&mut self.items);
+    }
+
+    /// Lists all ephemerons that are put off in place of other items. The list has room for them.
+    pub(crate) fn list_off(&mut self)
+        requires room { count_off self.old.off ≤ self.old.room }
+        ensures listed { self.new ≡ record self.old { kept = []; left = all_off self.old.off; room = self.new.room } }
+        ensures room { self.old.room ≤ self.new.room }
+    {
+        self.items.clear();
+        self.kept = 0;
+        self.place = 0;
+        self.rows.put_all(&mut self.items);
+    }
+
+    /// Forgets the ephemerons that are put off.
+    pub(crate) fn forget(&mut self)
+        ensures { self.new ≡ record self.old { off = none_off } }
+    {
+        self.rows.clear();
     }
 
     /// Removes all items.

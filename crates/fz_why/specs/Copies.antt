@@ -5,7 +5,7 @@ use Rattle.fz_model.specs.declared.answers.Registration.{Registration}
 use Rattle.fz_finalizers.specs.States.{State}
 use Rattle.fz_why.specs.declared.reason.Reason.{Reason}
 use Rattle.fz_why.specs.Snapshot.{Copy, objects_of, place_of, value_of}
-use Rattle.fz_why.specs.Why.{AreStuck, IsToldOf, WithFound}
+use Rattle.fz_why.specs.Why.{IsToldOf, ListsStuck}
 
 -- the reason is true of the object
 abbrev pub IsToldIn : Copy → State → Reason → ℕ → Type 0
@@ -13,6 +13,4 @@ IsToldIn copy s reason object = IsToldOf (place_of copy.cells copy.links) (value
 
 -- these are the objects that wait for a ring
 abbrev pub AreStuckIn : Copy → State → List (ℕ × Registration) → List ℕ → Type 0
-AreStuckIn copy s registrations objects =
-    WithFound (place_of copy.cells copy.links) (value_of copy.cells copy.links) (objects_of copy.cells) copy.roots s
-    (λ found. AreStuck (place_of copy.cells copy.links) (value_of copy.cells copy.links) (objects_of copy.cells) s found registrations objects)
+AreStuckIn copy s registrations objects = ListsStuck (place_of copy.cells copy.links) (value_of copy.cells copy.links) (objects_of copy.cells) copy.roots s registrations objects

@@ -113,6 +113,11 @@ pub record Lists (cells new_cells : Cells) (links new_links : Links) (word : ℕ
   pub objects : objects_of new_cells ≡ with_cell (objects_of cells) c
   pub places : (number : ℕ) → place_of new_cells new_links number ≡ links_to c.link word (place_of cells links) number
 
+-- the next word was listed of the object that has the word before it
+abbrev pub ListsNext : Cells → Cells → Links → Links → ℕ → Listed → Type 0
+ListsNext cells new_cells links new_links word l =
+    (object : ℕ) × (holder_of cells (word - 1) ≡ Some object) × Lists cells new_cells links new_links word (cell_of object l)
+
 -- nothing was listed
 abbrev pub Keeps : Cells → Cells → Links → Links → Type 0
 Keeps cells new_cells links new_links = (new_cells ≡ cells) × (new_links ≡ links)

@@ -173,6 +173,25 @@ IsRowOf place value link objects s found kind k holder b =
 abbrev pub IsRowBy : (ℕ → Option ℕ) → (Map Object → ℕ → Option ℕ) → (ℕ → Option ℕ) → Map Object → State → Option Trail → Rows
 IsRowBy place value link objects s found k holder b = IsRowOf place value link objects s found Short k holder b ⊎ IsRowOf place value link objects s found Long k holder b
 
+-- with what was found and the object's own trail behind it, a trail gains the values of the ephemeron with this number and key, if its word counts; of the same
+-- if it counts and is of this kind; of all that count of a kind; and of those of both kinds
+module _ (place : ℕ → Option ℕ) (value : Map Object → ℕ → Option ℕ) (link : ℕ → Option ℕ) (objects : Map Object) (s : State) (found own : Option Trail) where
+  abbrev pub AddsRowAt : ℕ → ℕ → Trail → Trail → Type 0
+  AddsRowAt number key = AddsValues (IsRowAt place value objects (is_cut link s found) number key) (either found own)
+
+  abbrev pub AddsRowOne : LinkKind → ℕ → ℕ → Trail → Trail → Type 0
+  AddsRowOne kind number key = AddsValues (IsRowOne place value link objects s found kind number key) (either found own)
+
+  abbrev pub AddsRowOf : LinkKind → Trail → Trail → Type 0
+  AddsRowOf kind = AddsValues (IsRowOf place value link objects s found kind) (either found own)
+
+  abbrev pub AddsRowBy : Trail → Trail → Type 0
+  AddsRowBy = AddsValues (IsRowBy place value link objects s found) (either found own)
+
+  -- the next object on the trail; past its end, once it has gained these values
+  abbrev pub LooksBy : ℕ → Trail → Trail → Option ℕ → Type 0
+  LooksBy = Looks (IsRowBy place value link objects s found) (either found own)
+
 -- a step by one of these words
 abbrev pub IsStepBy : Map Object → (ℕ → Bool) → List Pointer → ℕ → Type 0
 IsStepBy objects cut pointers b = (p : Pointer) × Contains pointers p × (cut p.word ≡ false) × (points objects p.value ≡ Some b)

@@ -133,6 +133,10 @@ module _ (place : ℕ → Option ℕ) (value : Map Object → ℕ → Option ℕ
 abbrev pub WithFound : (ℕ → Option ℕ) → (Map Object → ℕ → Option ℕ) → Map Object → List ℕ → State → ((ℕ → Bool) → Type 0) → Type 0
 WithFound place value objects roots s IsTrueOf = (found : ℕ → Bool) × Computes found (IsReached place value objects roots s) × IsTrueOf found
 
+-- these are the stuck objects, where the found set consists of what the roots reach
+abbrev pub ListsStuck : (ℕ → Option ℕ) → (Map Object → ℕ → Option ℕ) → Map Object → List ℕ → State → List (ℕ × Registration) → List ℕ → Type 0
+ListsStuck place value objects roots s registrations stuck = WithFound place value objects roots s (λ found. AreStuck place value objects s found registrations stuck)
+
 -- the result is true of the object, and its path shows it
 abbrev pub IsToldOf : (ℕ → Option ℕ) → (Map Object → ℕ → Option ℕ) → Map Object → List ℕ → State → Reason → ℕ → Type 0
 IsToldOf place value objects roots s Unregistered o = (get s.registrations o ≡ None) × ((e : Entry) → Contains (unfinished s) e → e.obj ≢ o)

@@ -1,9 +1,6 @@
 //! What the roots reach.
 
 ghost use Rattle.std.specs.Prelude.{◌≡◌, IfOk, OnOk, Some};
-ghost use Rattle.std.specs.FinMap.{get};
-ghost use Rattle.fz_model.specs.declared.answers.Entry.{Entry};
-ghost use Rattle.fz_model.specs.declared.answers.Registration.{Registration};
 ghost use Rattle.fz_model.specs.Memory.{points};
 ghost use Rattle.fz_finalizers.specs.States.{unfinished};
 ghost use Rattle.fz_why.specs.Trail.{Adds, IsByHost, IsByRegistration, IsByCleanup, IsByEntry, IsFoundTrail};

@@ -1,12 +1,12 @@
 //! A copy of a host's heap: its objects, their words and its roots, as they were listed.
 
-ghost use Rattle.std.specs.Prelude.{◌≡◌, ◌↔◌, ◌-◌, ◌++◌, ◌&&◌, ◌∷◌, [], not, is_some, ℕ, nat_eq, None, Some, IfOk, IsTrue, MatchOption, OnErr, OnOk};
+ghost use Rattle.std.specs.Prelude.{◌≡◌, ◌↔◌, ◌-◌, ◌++◌, ◌&&◌, ◌∷◌, [], not, is_some, None, IfOk, IsTrue, MatchOption, OnErr, OnOk};
 ghost use Rattle.std.specs.FinMap.{contains_key};
 ghost use Rattle.fz_model.specs.Memory.{points};
 ghost use Rattle.fz_pass.specs.Marks.{AreRegistered, AreTargets};
 ghost use Rattle.fz_why.specs.Paths.{all_pointers};
 ghost use Rattle.fz_why.specs.Listing.{links_found, values_stay, words_point};
-ghost use Rattle.fz_why.specs.Snapshot.{cell_of, DoesOrNot, HasAll, holder_of, IsNext, is_taken, Keeps, link_of, Lists, objects_of, place_of, value_of};
+ghost use Rattle.fz_why.specs.Snapshot.{cell_of, DoesOrNot, HasAll, holder_of, IsNext, is_taken, Keeps, link_of, Lists, ListsNext, objects_of, place_of, value_of};
 ghost use Rattle.fz_why.specs.Copies.{IsToldIn};
 
 mod listing;
@@ -99,7 +99,7 @@ impl Snapshot {
     /// if another word has the address or the link, or if the address is 0 or 2^64 - 1.
     pub fn word(&mut self, word: Addr, listed: Listed) -> Result<bool, NoMemory>
         ensures answer { IfOk result (λ done. done ≡ (is_some (holder_of self.old.cells (word - 1)) && not (is_taken self.old.cells self.old.links word listed.link))) }
-        ensures listed { DoesOrNot result ((object : ℕ) × (holder_of self.old.cells (word - 1) ≡ Some object) × Lists self.old.cells self.new.cells self.old.links self.new.links word (cell_of object listed)) (Keeps self.old.cells self.new.cells self.old.links self.new.links) }
+        ensures listed { DoesOrNot result (ListsNext self.old.cells self.new.cells self.old.links self.new.links word listed) (Keeps self.old.cells self.new.cells self.old.links self.new.links) }
         ensures roots { self.new.roots ≡ self.old.roots }
     {
         let _ = &self.cells;

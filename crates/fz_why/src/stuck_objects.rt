@@ -7,7 +7,7 @@ ghost use Rattle.fz_pass.specs.Marks.{AreRegistered, AreTargets};
 ghost use Rattle.fz_finalizers.specs.Walks.{registrations_in_order};
 ghost use Rattle.fz_why.specs.Snapshot.{HasAll, objects_of};
 ghost use Rattle.fz_why.specs.Copies.{AreStuckIn};
-ghost use Rattle.fz_why.specs.Why.{AreStuck, IsUnfound, WithFound};
+ghost use Rattle.fz_why.specs.Why.{IsUnfound, ListsStuck};
 ghost use Rattle.fz_why.specs.Trail.{has, is_behind, is_stuck_by, Adds, IsByCircle, IsByCircles, IsFoundOf, IsRingsTrail};
 
 use crate::paths::Paths;
@@ -162,7 +162,7 @@ pub fn stuck<H: Paths>(
     requires keys { AreTargets (H.objects host.now) finalizers.now.state.ephemerons.short }
     // A cleared word points to nothing.
     requires zero { points (H.objects host.now) 0 ≡ None }
-    ensures listed { IfOk result (λ objects. WithFound (H.place host.now) (H.value host.now) (H.objects host.now) (H.roots host.now) finalizers.now.state (λ found. AreStuck (H.place host.now) (H.value host.now) (H.objects host.now) finalizers.now.state found (registrations_in_order finalizers.now) objects.items)) }
+    ensures listed { IfOk result (λ objects. ListsStuck (H.place host.now) (H.value host.now) (H.objects host.now) (H.roots host.now) finalizers.now.state (registrations_in_order finalizers.now) objects.items) }
 {
     let found = find(alloc, finalizers, host)?;
     let reached = reach_rings(alloc, finalizers, host, &found)?;

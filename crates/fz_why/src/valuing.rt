@@ -2,7 +2,7 @@
 
 ghost use Rattle.std.specs.Prelude.{◌≡◌, ◌≤◌, length, IfOk, OnOk};
 ghost use Rattle.std.specs.Option.{option_copied};
-ghost use Rattle.fz_why.specs.Trail.{counts, either, has_in, is_cut, row_holder, AddsValues, IsRowAt, IsRowBy, IsRowOf, IsRowOne, Looks, TellsHeld, TellsWay};
+ghost use Rattle.fz_why.specs.Trail.{counts, either, has_in, is_cut, row_holder, AddsRowAt, AddsRowBy, AddsRowOf, AddsRowOne, LooksBy, TellsHeld, TellsWay};
 
 use crate::origin::Origin;
 use crate::paths::Paths;
@@ -116,7 +116,7 @@ fn add_value<H: Paths>(
     key: Addr,
     trail: &mut Trail,
 ) -> Result<(), NoMemory>
-    ensures added { OnOk result (AddsValues (IsRowAt (H.place host.now) (H.value host.now) (H.objects host.now) (is_cut (H.link host.now) finalizers.now.state (option_copied found.entry)) number key) (either (option_copied found.entry) (option_copied own.entry)) trail.old trail.new) }
+    ensures added { OnOk result (AddsRowAt (H.place host.now) (H.value host.now) (H.link host.now) (H.objects host.now) finalizers.now.state (option_copied found.entry) (option_copied own.entry) number key trail.old trail.new) }
 {
     let Some(object) = holder(finalizers, host, found, number) else {
         return Ok(());
@@ -144,7 +144,7 @@ fn add_counted<H: Paths>(
     key: Addr,
     trail: &mut Trail,
 ) -> Result<(), NoMemory>
-    ensures added { OnOk result (AddsValues (IsRowOne (H.place host.now) (H.value host.now) (H.link host.now) (H.objects host.now) finalizers.now.state (option_copied found.entry) kind number key) (either (option_copied found.entry) (option_copied own.entry)) trail.old trail.new) }
+    ensures added { OnOk result (AddsRowOne (H.place host.now) (H.value host.now) (H.link host.now) (H.objects host.now) finalizers.now.state (option_copied found.entry) (option_copied own.entry) kind number key trail.old trail.new) }
 {
     if !counts(kind, found, key) {
         return Ok(());
@@ -162,7 +162,7 @@ fn add_values_of<H: Paths>(
     kind: LinkKind,
     trail: &mut Trail,
 ) -> Result<(), NoMemory>
-    ensures added { OnOk result (AddsValues (IsRowOf (H.place host.now) (H.value host.now) (H.link host.now) (H.objects host.now) finalizers.now.state (option_copied found.entry) kind) (either (option_copied found.entry) (option_copied own.entry)) trail.old trail.new) }
+    ensures added { OnOk result (AddsRowOf (H.place host.now) (H.value host.now) (H.link host.now) (H.objects host.now) finalizers.now.state (option_copied found.entry) (option_copied own.entry) kind trail.old trail.new) }
 {
     for each in finalizers.iter_ephemerons(kind) {
         add_counted(finalizers, host, found, own, kind, each.0, each.1, trail)?;
@@ -178,7 +178,7 @@ fn add_values<H: Paths>(
     own: Option<&Trail>,
     trail: &mut Trail,
 ) -> Result<(), NoMemory>
-    ensures added { OnOk result (AddsValues (IsRowBy (H.place host.now) (H.value host.now) (H.link host.now) (H.objects host.now) finalizers.now.state (option_copied found.entry)) (either (option_copied found.entry) (option_copied own.entry)) trail.old trail.new) }
+    ensures added { OnOk result (AddsRowBy (H.place host.now) (H.value host.now) (H.link host.now) (H.objects host.now) finalizers.now.state (option_copied found.entry) (option_copied own.entry) trail.old trail.new) }
 {
     add_values_of(finalizers, host, found, own, LinkKind::Short, trail)?;
     add_values_of(finalizers, host, found, own, LinkKind::Long, trail)?;
@@ -195,7 +195,7 @@ pub(crate) fn look<H: Paths>(
     trail: &mut Trail,
 ) -> Result<Option<Addr>, NoMemory>
     requires { place ≤ length trail.old }
-    ensures looked { IfOk result (λ next. Looks (IsRowBy (H.place host.now) (H.value host.now) (H.link host.now) (H.objects host.now) finalizers.now.state (option_copied found.entry)) (either (option_copied found.entry) (option_copied own.entry)) place trail.old trail.new next) }
+    ensures looked { IfOk result (λ next. LooksBy (H.place host.now) (H.value host.now) (H.link host.now) (H.objects host.now) finalizers.now.state (option_copied found.entry) (option_copied own.entry) place trail.old trail.new next) }
 {
     if let Some(here) = trail.at(place) {
         return Ok(Some(here.0));

@@ -12,3 +12,8 @@ pub(crate) fn must_be<T: PartialEq + Debug + Drop>(rt: &impl Abort, found: T, wa
 pub(crate) fn at<T: Copy>(rt: &impl Abort, list: &[T], place: usize) -> T {
     list.get(place).copied().expect(rt, "a member")
 }
+
+/// Appends an element. There has to be memory for it.
+pub(crate) fn push<T: Drop>(rt: &impl Abort, list: &mut Vec<T>, element: T) {
+    list.push(element).expect(rt, "memory");
+}

@@ -11,5 +11,6 @@ mod guardians;
 mod keyed_graphs;
 mod regions;
 mod runtime;
+mod sets;
 mod snapshot;
 mod why;

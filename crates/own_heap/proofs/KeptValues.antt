@@ -4,13 +4,13 @@ use Rattle.std.proofs.lemmas.Bool.{both_ways, and_parts, cond-true}
 use Rattle.std.proofs.lemmas.Option.{none-some}
 use Rattle.std.specs.Prelude.{option_and_then, unwrap_or}
 use Rattle.std.specs.Option.{option_map_or}
-use Rattle.std.specs.FinMap.{get, contains_key, retain_keys}
+use Rattle.std.specs.FinMap.{get, contains_key}
 use Rattle.fz_model.specs.Memory.{points, fill, filled, word_at}
 use Rattle.fz_model.specs.Pass.{cleared, is_dead}
 use Rattle.fz_model.specs.State.{Map, Object}
 use Rattle.fz_model.proofs.Maps.{filling, get-mapped, get-retain, retained_back}
 use Rattle.fz_pass.specs.Decides.{Parts}
-use Rattle.fz_pass.specs.Holds.{Ephemerons, Member, ByHolder, ByKey, IsHolder, IsOfKey}
+use Rattle.fz_pass.specs.Holds.{Ephemerons, Member, ByHolder, ByKey, IsOfKey}
 use Rattle.fz_pass.specs.Places.{is_held, placed}
 use Rattle.fz_pass.specs.Safe.{LeadsTo}
 use Rattle.fz_pass.specs.Whole.{IsRetained, ephemerons_judged, objects_judged}

@@ -1,21 +1,18 @@
 -- What ephemeron pairs have after a collection, and that ephemerons never retain their keys.
-use Rattle.std.proofs.Common.{◌≡◌, ◌∙◌, ◌↔◌, ◌⊎◌, ◌&&◌, ◌||◌, ℕ, zero, suc, ◌+◌, ◌-◌, Bool, true, false, cond, not, List, [], ◌∷◌, length, Option, Some, None, option_map, is_some, slice_index, refl, sym, ap, subst, inl, inr, ⊎_elim, arith, IsTrue}
-use Rattle.std.proofs.lemmas.Bool.{both_ways, cond-true}
-use Rattle.std.proofs.lemmas.Option.{same_Some, none-some}
+use Rattle.std.proofs.Common.{◌≡◌, ◌∙◌, ◌↔◌, ◌⊎◌, ◌&&◌, ◌||◌, ℕ, zero, suc, ◌+◌, ◌-◌, Bool, true, false, cond, List, [], ◌∷◌, Option, Some, None, option_map, is_some, slice_index, refl, sym, ap, inl, inr, ⊎_elim, IsTrue}
+use Rattle.std.proofs.lemmas.Bool.{both_ways}
+use Rattle.std.proofs.lemmas.Option.{none-some}
 use Rattle.std.specs.Prelude.{option_and_then, unwrap_or}
 use Rattle.std.specs.Option.{option_map_or}
 use Rattle.std.specs.FinMap.{get, contains_key}
-use Rattle.fz_model.specs.declared.answers.Registration.{Registration}
 use Rattle.fz_model.specs.Extents.{points_in}
 use Rattle.fz_model.specs.Memory.{points, fill, filled, word_at}
 use Rattle.fz_model.specs.Pass.{cleared, is_dead}
 use Rattle.fz_model.specs.State.{Map, Object}
 use Rattle.fz_model.proofs.Maps.{extents-filled, filling, get-mapped, get-retain, retained_back}
-use Rattle.fz_pass.specs.Decides.{Parts}
 use Rattle.fz_pass.specs.Holds.{Ephemerons, Holds, Member, ByChild, ByHolder, ByKey, IsHolder, IsOfKey}
-use Rattle.fz_pass.specs.Marks.{with_targets}
 use Rattle.fz_pass.specs.Places.{is_held, links_held, placed}
-use Rattle.fz_pass.specs.Whole.{IsLost, ephemerons_judged, objects_judged}
+use Rattle.fz_pass.specs.Whole.{IsLost, ephemerons_judged}
 use Rattle.fz_pass.specs.WholeLaws.{without_key}
 use Rattle.fz_pass.proofs.Decided.{child_before}
 use Rattle.fz_pass.proofs.Holding.{holds_all, within_whole}
@@ -27,7 +24,7 @@ use Rattle.own_heap.specs.declared.record.RecordId.{RecordId}
 use Rattle.own_heap.specs.Outside.{place_of_link}
 use Rattle.own_heap.specs.Records.{address_of, objects_of, value_of}
 use Rattle.own_heap.specs.Collected.{Collects}
-use Rattle.own_heap.specs.Keyed.{HasKey, KeysAreNotRetained, PairsLoseKeys, with_registered}
+use Rattle.own_heap.specs.Keyed.{KeysAreNotRetained, PairsLoseKeys, with_registered}
 use Rattle.own_heap.proofs.Collected.{zero_nowhere}
 use Rattle.own_heap.proofs.Keeping.{left_kept}
 use Rattle.own_heap.proofs.Weak.{held, with_held}

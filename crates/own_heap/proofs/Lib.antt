@@ -7,6 +7,7 @@ pub mod Traced
 pub mod Collected
 pub mod References
 pub mod Valued
+pub mod Cleared
 pub mod Keeping
 pub mod Holding
 pub mod Pointed

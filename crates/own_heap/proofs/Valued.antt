@@ -1,5 +1,5 @@
 -- The values of ephemerons: what fields hide.
-use Rattle.std.proofs.Common.{◌≡◌, ◌≢◌, ◌↔◌, ◌⊎◌, ℕ, ◌+◌, ◌-◌, ◌%◌, ◌<◌, List, Option, Some, None, Bool, option_map, is_some, get_or, slice_index, refl, sym, ap, ◌∙◌, subst, inl, inr, ⊎_elim, arith, IsTrue}
+use Rattle.std.proofs.Common.{◌≡◌, ◌≢◌, ◌⊎◌, ℕ, ◌+◌, ◌-◌, ◌%◌, List, Option, Some, None, Bool, option_map, is_some, get_or, slice_index, refl, sym, ap, ◌∙◌, subst, inl, inr, ⊎_elim, arith, IsTrue}
 use Rattle.std.proofs.lemmas.Option.{same_Some, none-some}
 use Rattle.std.specs.Prelude.{option_and_then, unwrap_or}
 use Rattle.std.specs.FinMap.{get}
@@ -14,11 +14,11 @@ use Rattle.own_heap.specs.declared.record.Field.{Field}
 use Rattle.own_heap.specs.declared.record.Field.TheVariants.{Nothing, Number, Reference, Hidden}
 use Rattle.own_heap.specs.declared.record.Record.{Record}
 use Rattle.own_heap.specs.declared.record.RecordId.{RecordId}
-use Rattle.own_heap.specs.Records.{address_of, place_of, start_of, word_of, words_of, object_of, objects_of, slot, value_of, Hides, HiddenAreValues}
+use Rattle.own_heap.specs.Records.{address_of, start_of, word_of, words_of, object_of, objects_of, slot, value_of, Hides, HiddenAreValues}
 use Rattle.own_heap.specs.Marking.{is_marked}
 use Rattle.own_heap.proofs.Collected.{zero_nowhere}
 use Rattle.own_heap.proofs.Fields.{word_in}
-use Rattle.own_heap.proofs.Slots.{stands, slot_at, place_of-address, points_is, address_at}
+use Rattle.own_heap.proofs.Slots.{stands, slot_at, place_of-address, points_is}
 use Rattle.own_heap.proofs.References.{reference_points, stands_at}
 
 -- ---- marking a value

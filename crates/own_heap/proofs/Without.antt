@@ -1,8 +1,7 @@
 -- A collection without ephemerons goes by paths alone.
-use Rattle.std.proofs.Common.{◌≡◌, ◌∙◌, ◌↔◌, ℕ, Bool, List, Option, length, sym, ap, subst, ⊎_elim, inl, inr, IsTrue}
+use Rattle.std.proofs.Common.{◌≡◌, ◌∙◌, ◌↔◌, ℕ, Bool, List, Option, length, sym, ap, subst, IsTrue}
 use Rattle.std.specs.FinSet.{contains}
 use Rattle.fz_model.specs.State.{Map, Object}
-use Rattle.fz_model.specs.declared.kinds.LinkKind.TheVariants.{Short, Long}
 use Rattle.fz_pass.specs.Flagged.{AreNormal}
 use Rattle.fz_pass.specs.Holds.{Ephemerons, IsOfKey, Settles, no_ephemerons}
 use Rattle.fz_pass.specs.Marks.{IsClosed, Marks}

@@ -1,6 +1,6 @@
 -- What a guardian has, and what a weak pair has after a collection.
 -- code: own_heap/src/guardian.rt, pair.rt, law.rt
-use Rattle.std.specs.Prelude.{◌≡◌, ℕ, Bool, not, ◌&&◌, ◌==◌, ◌↔◌, List, ◌∷◌, filter, Option, Some, IsTrue}
+use Rattle.std.specs.Prelude.{◌≡◌, ℕ, Bool, not, ◌&&◌, ◌==◌, ◌↔◌, List, [], ◌∷◌, filter, Option, Some, IsTrue}
 use Rattle.std.specs.FinMap.{get, contains_key}
 use Rattle.fz_model.specs.declared.answers.Entry.{Entry}
 use Rattle.fz_model.specs.State.{Map, Object}
@@ -19,6 +19,10 @@ is_guarded procedure e = e.proc == procedure && not (e.obj == 0)
 -- what the guardian with this procedure has: its entries that are held, in queue order
 abbrev pub guarded : State → ℕ → List Entry
 guarded s procedure = filter (is_guarded procedure) s.held
+
+-- it has none, and nothing changes
+abbrev pub GivesNone : ℕ → State → State → Type 0
+GivesNone procedure old new = (guarded old procedure ≡ []) × (new ≡ old)
 
 -- its first entry is finished, which is of this record
 pub record IsGiven (procedure : ℕ) (old new : State) (id : RecordId) : Type 0 where

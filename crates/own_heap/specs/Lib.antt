@@ -7,3 +7,4 @@ pub mod Collected
 pub mod Pointing
 pub mod Guarding
 pub mod Keyed
+pub mod Told

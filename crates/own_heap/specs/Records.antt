@@ -7,11 +7,13 @@ use Rattle.fz_model.specs.declared.kinds.ObjKind.TheVariants.{Scanned}
 use Rattle.fz_model.specs.State.{Map, Object}
 use Rattle.fz_model.specs.Memory.{points, word_at}
 use Rattle.fz_model.specs.Reachability.{Child, Leads}
+use Rattle.fz_pass.specs.Places.{written_at}
 use Rattle.own_heap.specs.declared.record.Field.{Field}
 use Rattle.own_heap.specs.declared.record.Field.TheVariants.{Nothing, Number, Reference, Hidden}
 use Rattle.own_heap.specs.declared.record.Record.{Record}
 use Rattle.own_heap.specs.declared.record.RecordId.{RecordId}
 use Rattle.own_heap.specs.declared.record.TheConstants.{FIELDS, SPACING}
+use Rattle.own_heap.specs.Outside.{place_of_link}
 
 -- the address of the record at an index, and the index of the record at an address
 abbrev pub address_of : ℕ → ℕ
@@ -72,6 +74,10 @@ pub record IsMade (old new : List (Option Record)) (id : RecordId) (made : Recor
 abbrev pub with_field : ℕ → Field → Record → Record
 with_field k value r = record r { fields = slice_set r.fields k value }
 
+-- the records, one of them with another value in one field
+abbrev pub with_field_at : ℕ → ℕ → Field → List (Option Record) → List (Option Record)
+with_field_at place k value slots = slice_set slots place (option_map (with_field k value) (slot slots place))
+
 -- the field of the record at an index, if there is one
 abbrev pub field_at : List (Option Record) → ℕ → ℕ → Option Field
 field_at slots place k = option_map (λ (r : Record). slice_index_or r.fields k Nothing) (slot slots place)
@@ -115,6 +121,10 @@ pub record Hides (slots : List (Option Record)) (a : RecordId) (field : ℕ) (b 
 -- the value of a field as an ephemeron is the record that it hides, if it hides one
 abbrev pub HiddenAreValues : List (Option Record) → Type 0
 HiddenAreValues slots = (a b : RecordId) (field : ℕ) → field < FIELDS → Hides slots a field b ↔ (value_of (objects_of slots) (address_of a.place + field) ≡ Some (address_of b.place))
+
+-- clearing a word gives no ephemeron another value: it leaves the value, or takes it away
+abbrev pub ValuesStay : Type 0
+ValuesStay = (objects : Map Object) (cleared word first : ℕ) → points objects 0 ≡ None → value_of (written_at place_of_link cleared objects) word ≡ Some first → value_of objects word ≡ Some first
 
 -- making a record adds exactly one object
 abbrev pub MadeIsInserted : List (Option Record) → List (Option Record) → Type 0

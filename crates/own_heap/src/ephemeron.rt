@@ -1,11 +1,11 @@
 //! Ephemeron pairs.
 
-ghost use Rattle.std.specs.Prelude.{◌≡◌, ◌⊎◌, is_some, option_map, slice_set, IfOk, IfErr, IfSome, IsTrue, MatchOption, OnErr, OnOk, None, Some};
+ghost use Rattle.std.specs.Prelude.{◌≡◌, ◌⊎◌, is_some, IfOk, IfErr, IfSome, IsTrue, MatchOption, OnErr, OnOk, None, Some};
 ghost use Rattle.std.specs.FinMap.{contains_key, get};
 ghost use Rattle.fz_finalizers.specs.Causes.{IsJudgedOrLacks, link_causes};
 ghost use Rattle.fz_finalizers.specs.Follows.{Follows, Ephemeron};
 ghost use Rattle.own_heap.specs.Keyed.{HasKey};
-ghost use Rattle.own_heap.specs.Records.{address_of, objects_of, slot, value_of, with_field};
+ghost use Rattle.own_heap.specs.Records.{address_of, objects_of, slot, value_of, with_field_at};
 
 use crate::record::{Field, RecordId};
 use crate::runtime::Runtime;
@@ -44,7 +44,7 @@ impl EphemeronPair {
         ensures refused { OnErr result ((runtime.new.finalizers.state ≡ runtime.old.finalizers.state) × (runtime.new.heap ≡ runtime.old.heap)) }
         ensures pair { IfOk result (λ pair. pair.id ≡ id) }
         ensures follows { OnOk result (Follows runtime.old.finalizers.state (Ephemeron LinkKind.Short (address_of id.place) (address_of key.place)) runtime.new.finalizers.state) }
-        ensures set { OnOk result (runtime.new.heap.records.slots.items ≡ slice_set runtime.old.heap.records.slots.items id.place (option_map (with_field 0 (Field.Hidden value)) (slot runtime.old.heap.records.slots.items id.place))) }
+        ensures set { OnOk result (runtime.new.heap.records.slots.items ≡ with_field_at id.place 0 (Field.Hidden value) runtime.old.heap.records.slots.items) }
         ensures rest { OnOk result ((runtime.new.heap.roots ≡ runtime.old.heap.roots) × (runtime.new.heap.births ≡ runtime.old.heap.births)) }
     {
         runtime.ephemeron(LinkKind::Short, id.address(), key)?;

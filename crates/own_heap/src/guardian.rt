@@ -7,7 +7,7 @@ ghost use Rattle.fz_model.specs.declared.answers.Entry.{Entry};
 ghost use Rattle.fz_finalizers.specs.Causes.{IsJudgedOrLacks, register_causes};
 ghost use Rattle.fz_finalizers.specs.Follows.{Follows, Register};
 ghost use Rattle.fz_finalizers.specs.States.{unfinished};
-ghost use Rattle.own_heap.specs.Guarding.{guarded, is_guarded, IsGiven};
+ghost use Rattle.own_heap.specs.Guarding.{is_guarded, GivesNone, IsGiven};
 ghost use Rattle.own_heap.specs.Records.{address_of, slot};
 
 use crate::record::RecordId;
@@ -88,7 +88,7 @@ impl Guardian {
     /// retained only by what refers to it. Takes time proportional to the unfinished entries.
     pub fn next(self, runtime: &mut Runtime) -> Option<RecordId>
         ensures heap { runtime.new.heap ≡ runtime.old.heap }
-        ensures given { MatchOption result ((guarded runtime.old.finalizers.state self.procedure ≡ []) × (runtime.new.finalizers.state ≡ runtime.old.finalizers.state)) (IsGiven self.procedure runtime.old.finalizers.state runtime.new.finalizers.state) }
+        ensures given { MatchOption result (GivesNone self.procedure runtime.old.finalizers.state runtime.new.finalizers.state) (IsGiven self.procedure runtime.old.finalizers.state runtime.new.finalizers.state) }
         ensures stands { IfSome result (λ id. IsTrue (is_some (slot runtime.new.heap.records.slots.items id.place))) }
     {
         let Some(entry) = first_guarded(&runtime.finalizers, self.procedure) else {

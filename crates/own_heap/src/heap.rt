@@ -1,10 +1,10 @@
 //! A heap of records.
 
-ghost use Rattle.std.specs.Prelude.{◌≡◌, ◌+◌, ◌^◌, ◌<◌, ◌≤◌, ◌⊎◌, [], ℕ, false, is_some, length, option_map, replicate, slice_set, IfOk, IfSome, IsTrue, MatchOption, None, Some};
+ghost use Rattle.std.specs.Prelude.{◌≡◌, ◌+◌, ◌^◌, ◌<◌, ◌≤◌, ◌⊎◌, [], false, is_some, length, replicate, IfOk, IfSome, IsTrue, MatchOption, None, Some};
 ghost use Rattle.std.specs.FinMap.{get, retain_keys};
 ghost use Rattle.std.specs.Option.{option_copied};
 ghost use Rattle.fz_pass.specs.Marks.{IsClosed, Marks as MarksOf};
-ghost use Rattle.own_heap.specs.Records.{address_of, objects_of, slot, with_field, IsFull, IsFullTo, IsLedByRoot, IsLedByWord, IsMade};
+ghost use Rattle.own_heap.specs.Records.{address_of, objects_of, slot, with_field_at, IsFull, IsFullTo, IsLedByRoot, IsLedByWord, IsMade};
 ghost use Rattle.own_heap.specs.Marking.{is_marked};
 
 use crate::marks::Marks;
@@ -104,7 +104,7 @@ impl Heap {
     /// Writes a field of a record. Does nothing if the record was swept.
     pub fn set(&mut self, id: RecordId, field: usize, value: Field)
         requires { field < FIELDS }
-        ensures set { self.new.records.slots.items ≡ slice_set self.old.records.slots.items id.place (option_map (with_field field value) (slot self.old.records.slots.items id.place)) }
+        ensures set { self.new.records.slots.items ≡ with_field_at id.place field value self.old.records.slots.items }
         ensures rest { (self.new.marks ≡ self.old.marks) × (self.new.roots ≡ self.old.roots) × (self.new.births ≡ self.old.births) × (self.new.cursor ≡ self.old.cursor) }
     {
         self.records.set(id.place as usize, field, value);

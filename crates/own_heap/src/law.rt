@@ -1,7 +1,7 @@
 //! How the model's objects relate to records, what weak pairs and ephemeron pairs have, and what collections do without ephemerons.
 
 ghost use Rattle.std.specs.Prelude.{List, Option};
-ghost use Rattle.own_heap.specs.Records.{HiddenAreValues, MadeIsInserted, ReferencesAreChildren};
+ghost use Rattle.own_heap.specs.Records.{HiddenAreValues, MadeIsInserted, ReferencesAreChildren, ValuesStay};
 ghost use Rattle.fz_model.specs.State.{Map, Object};
 ghost use Rattle.fz_finalizers.specs.States.{State};
 ghost use Rattle.own_heap.specs.Collected.{CollectsWithout};
@@ -11,11 +11,12 @@ ghost use Rattle.own_heap.specs.declared.record.Record.{Record};
 ghost use Rattle.own_heap.specs.declared.record.RecordId.{RecordId};
 
 /// An object's children are the records to which its fields refer, making a record adds exactly one object, and the value of an ephemeron is what its field
-/// hides.
+/// hides. Clearing a field gives no ephemeron another value, which `fz_machine` requires of a host.
 pub fn objects_are_records()
     ensures children { (slots : List (Option Record)) → ReferencesAreChildren slots }
     ensures made { (old new : List (Option Record)) → MadeIsInserted old new }
     ensures hidden { (slots : List (Option Record)) → HiddenAreValues slots }
+    ensures cleared { ValuesStay }
 {}
 
 /// Does nothing. Its contract says that a weak pair has its record as long as that remains, and no longer.

@@ -1,10 +1,10 @@
 //! Weak pairs.
 
-ghost use Rattle.std.specs.Prelude.{◌≡◌, is_some, option_map, slice_set, IfErr, IfOk, IfSome, IsTrue, MatchOption, OnErr, OnOk, None, Some};
+ghost use Rattle.std.specs.Prelude.{◌≡◌, is_some, IfErr, IfOk, IfSome, IsTrue, MatchOption, OnErr, OnOk, None, Some};
 ghost use Rattle.std.specs.FinMap.{get};
 ghost use Rattle.fz_finalizers.specs.Causes.{IsJudgedOrLacks, link_causes};
 ghost use Rattle.fz_finalizers.specs.Follows.{Follows, Link};
-ghost use Rattle.own_heap.specs.Records.{address_of, slot, with_field};
+ghost use Rattle.own_heap.specs.Records.{address_of, slot, with_field_at};
 
 use crate::record::{Field, RecordId};
 use crate::runtime::Runtime;
@@ -29,7 +29,7 @@ impl WeakPair {
         ensures refused { OnErr result ((runtime.new.finalizers.state ≡ runtime.old.finalizers.state) × (runtime.new.heap ≡ runtime.old.heap)) }
         ensures pair { IfOk result (λ pair. pair.id ≡ id) }
         ensures follows { OnOk result (Follows runtime.old.finalizers.state (Link LinkKind.Long (address_of id.place) (address_of first.place)) runtime.new.finalizers.state) }
-        ensures set { OnOk result (runtime.new.heap.records.slots.items ≡ slice_set runtime.old.heap.records.slots.items id.place (option_map (with_field 0 (Field.Number (address_of first.place))) (slot runtime.old.heap.records.slots.items id.place))) }
+        ensures set { OnOk result (runtime.new.heap.records.slots.items ≡ with_field_at id.place 0 (Field.Number (address_of first.place)) runtime.old.heap.records.slots.items) }
         ensures rest { OnOk result ((runtime.new.heap.roots ≡ runtime.old.heap.roots) × (runtime.new.heap.births ≡ runtime.old.heap.births)) }
     {
         runtime.link(LinkKind::Long, id.address(), first)?;

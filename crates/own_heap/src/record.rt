@@ -9,7 +9,8 @@ use fz_model::{Addr, Word};
 /// The number of fields of a record.
 pub const FIELDS: usize = 4;
 
-/// The distance between the addresses of records. The numbers past the fields of a record lie in no record: they stand for hidden references.
+/// The distance between the addresses of records. The fields of a record are at the first `FIELDS` numbers from its address on. The numbers after them point to
+/// no record: they represent hidden references.
 pub const SPACING: u64 = 8;
 
 /// The first number of a link that lies in no record. All addresses of fields are smaller.

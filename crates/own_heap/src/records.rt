@@ -1,9 +1,9 @@
 //! The records, by index.
 
-ghost use Rattle.std.specs.Prelude.{◌≡◌, ◌≢◌, ◌+◌, ◌<◌, ◌≤◌, ℕ, None, Some, option_map, length, slice_set, IfSome, MatchOption};
-ghost use Rattle.std.specs.FinMap.{get, contains_key};
+ghost use Rattle.std.specs.Prelude.{◌≡◌, ◌≢◌, ◌<◌, ◌≤◌, ℕ, None, Some, option_map, length, IfSome, MatchOption};
+ghost use Rattle.std.specs.FinMap.{get};
 ghost use Rattle.fz_model.specs.Memory.{points, written};
-ghost use Rattle.own_heap.specs.Records.{object_of, objects_of, slot, value_of, with_field, AreFieldsKept, IsFull};
+ghost use Rattle.own_heap.specs.Records.{object_of, objects_of, slot, value_of, with_field_at, AreFieldsKept, IsFull};
 
 use crate::record::{FIELDS, Field, Record, place_of};
 use fz_model::{Addr, Word};
@@ -60,7 +60,7 @@ impl Records {
     /// Writes a field of the record at an index, if there is one.
     pub(crate) fn set(&mut self, place: usize, field: usize, value: Field)
         requires { field < FIELDS }
-        ensures { self.new.slots.items ≡ slice_set self.old.slots.items place (option_map (with_field field value) (slot self.old.slots.items place)) }
+        ensures { self.new.slots.items ≡ with_field_at place field value self.old.slots.items }
     {
         let Some(slot) = self.slots.get_mut(place) else {
             return;

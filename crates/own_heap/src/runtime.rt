@@ -1,18 +1,17 @@
 //! A heap with finalizers.
 
-ghost use Rattle.std.specs.Prelude.{◌≡◌, ◌+◌, ◌++◌, ◌∷◌, ◌⊎◌, ◌^◌, [], ◌<◌, if◌then◌else◌, is_some, length, option_map, replicate, slice_set, IfErr, IfOk, IfSome, IsTrue, MatchOption, OnErr, OnOk, None};
+ghost use Rattle.std.specs.Prelude.{◌≡◌, ◌+◌, ◌++◌, ◌∷◌, ◌⊎◌, ◌^◌, [], ◌<◌, if◌then◌else◌, is_some, length, replicate, IfErr, IfOk, IfSome, IsTrue, MatchOption, OnErr, OnOk, None};
 ghost use Rattle.std.specs.FinMap.{contains_key, get};
 ghost use Rattle.fz_model.specs.Steps.{move_answer, old_of};
 ghost use Rattle.fz_pass.specs.Keyed.{ephemeron_at, has_ephemeron, of_kind};
 ghost use Rattle.fz_pass.specs.Keyed as keyed;
 ghost use Rattle.fz_finalizers.specs.Causes.{IsJudgedBy, IsJudgedOrLacks, add_causes, finish_causes, link_causes, move_causes, register_causes};
-ghost use Rattle.fz_finalizers.specs.States.{HasRooms, IsRoomier, links_of, opening, room_of, waiting};
+ghost use Rattle.fz_finalizers.specs.States.{HasRooms, IsRoomier, Spends, UsesEntry, UsesLink, links_of, opening, room_of, waiting};
 ghost use Rattle.fz_finalizers.specs.Follows.{Follows, Register, Unregister, Link, Unlink, Move, Ephemeron, EndEphemeron, MoveEphemeron, AddCleanup, Cancel, Take, Finish, next_pass};
-ghost use Rattle.own_heap.specs.Outside.{place_of_link};
-ghost use Rattle.own_heap.specs.Records.{address_of, addresses_of, objects_of, slot, value_of, with_field, IsFull, IsMade};
+ghost use Rattle.own_heap.specs.Records.{address_of, objects_of, slot, with_field_at, IsFull, IsMade};
 ghost use Rattle.fz_pass.specs.Marks.{IsClosed};
 ghost use Rattle.fz_finalizers.specs.Walks.{registrations_in_order};
-ghost use Rattle.fz_why.specs.Why.{AreStuck, IsToldOf, WithFound};
+ghost use Rattle.own_heap.specs.Told.{AreStuckRecords, IsToldOfRecord};
 ghost use Rattle.own_heap.specs.Sound.{HeldStand, IsSound};
 ghost use Rattle.own_heap.specs.Marking.{is_marked};
 ghost use Rattle.own_heap.specs.Collected.{Collects, MarksKept};
@@ -100,7 +99,7 @@ impl Runtime {
     pub fn set(&mut self, id: RecordId, field: usize, value: Field)
         requires { field < FIELDS }
         ensures rest { (self.new.finalizers ≡ self.old.finalizers) × (self.new.heap.roots ≡ self.old.heap.roots) × (self.new.heap.births ≡ self.old.heap.births) }
-        ensures set { self.new.heap.records.slots.items ≡ slice_set self.old.heap.records.slots.items id.place (option_map (with_field field value) (slot self.old.heap.records.slots.items id.place)) }
+        ensures set { self.new.heap.records.slots.items ≡ with_field_at id.place field value self.old.heap.records.slots.items }
     {
         self.heap.set(id, field, value);
     }
@@ -137,6 +136,7 @@ impl Runtime {
         ensures number { IfOk result (λ answer. answer.0 ≡ self.old.finalizers.next_number) }
         ensures replaced { IfOk result (λ answer. answer.1 ≡ old_of self.old.finalizers.registrations (address_of id.place)) }
         ensures follows { OnOk result (Follows self.old.finalizers.state (Register (address_of id.place) finalizer) self.new.finalizers.state) }
+        ensures room { Spends UsesEntry result self.old.finalizers.rooms self.new.finalizers.rooms }
     {
         self.finalizers.register(id.address(), finalizer)
     }
@@ -146,6 +146,7 @@ impl Runtime {
         ensures heap { self.new.heap ≡ self.old.heap }
         ensures answer { result ≡ old_of self.old.finalizers.registrations (address_of id.place) }
         ensures follows { Follows self.old.finalizers.state (Unregister (address_of id.place)) self.new.finalizers.state }
+        ensures room { IsRoomier self.old.finalizers.rooms self.new.finalizers.rooms }
     {
         self.finalizers.unregister(id.address())
     }
@@ -165,6 +166,7 @@ impl Runtime {
         ensures wanting { IfErr result (λ r. r ≡ Refused.NoMemory → room_of self.old.finalizers.rooms kind ≡ 0) }
         ensures refused { OnErr result (self.new.finalizers.state ≡ self.old.finalizers.state) }
         ensures follows { OnOk result (Follows self.old.finalizers.state (Link kind word (address_of target.place)) self.new.finalizers.state) }
+        ensures room { Spends (UsesLink kind) result self.old.finalizers.rooms self.new.finalizers.rooms }
     {
         self.finalizers.link(kind, word, target.address())
     }
@@ -174,6 +176,7 @@ impl Runtime {
         ensures heap { self.new.heap ≡ self.old.heap }
         ensures answer { result ≡ contains_key (links_of self.old.finalizers.state kind) word }
         ensures follows { Follows self.old.finalizers.state (Unlink kind word) self.new.finalizers.state }
+        ensures room { IsRoomier self.old.finalizers.rooms self.new.finalizers.rooms }
     {
         self.finalizers.unlink(kind, word)
     }
@@ -205,6 +208,7 @@ impl Runtime {
         ensures answer { IfOk result (λ answer. answer ≡ (if has_ephemeron self.old.finalizers.ephemerons word then LinkAnswer.Duplicate else LinkAnswer.Success)) }
         ensures refused { OnErr result (self.new.finalizers.state ≡ self.old.finalizers.state) }
         ensures follows { OnOk result (Follows self.old.finalizers.state (Ephemeron kind word (address_of key.place)) self.new.finalizers.state) }
+        ensures room { IsRoomier self.old.finalizers.rooms self.new.finalizers.rooms }
     {
         self.finalizers.ephemeron(kind, word, key.address())
     }
@@ -214,6 +218,7 @@ impl Runtime {
         ensures heap { self.new.heap ≡ self.old.heap }
         ensures answer { result ≡ ephemeron_at self.old.finalizers.ephemerons word }
         ensures follows { Follows self.old.finalizers.state (EndEphemeron word) self.new.finalizers.state }
+        ensures room { IsRoomier self.old.finalizers.rooms self.new.finalizers.rooms }
     {
         self.finalizers.end_ephemeron(word)
     }
@@ -225,6 +230,7 @@ impl Runtime {
         ensures refused { OnErr result (self.new.finalizers.state ≡ self.old.finalizers.state) }
         ensures answer { IfOk result (λ answer. answer ≡ keyed.move_answer self.old.finalizers.ephemerons word to) }
         ensures follows { OnOk result (Follows self.old.finalizers.state (MoveEphemeron word to) self.new.finalizers.state) }
+        ensures room { IsRoomier self.old.finalizers.rooms self.new.finalizers.rooms }
     {
         self.finalizers.move_ephemeron(word, to)
     }
@@ -245,6 +251,7 @@ impl Runtime {
         ensures refused { OnErr result (self.new.finalizers.state ≡ self.old.finalizers.state) }
         ensures number { IfOk result (λ number. number ≡ self.old.finalizers.next_number) }
         ensures follows { OnOk result (Follows self.old.finalizers.state (AddCleanup (address_of id.place) cleanup) self.new.finalizers.state) }
+        ensures room { Spends UsesEntry result self.old.finalizers.rooms self.new.finalizers.rooms }
     {
         self.finalizers.add_cleanup(id.address(), cleanup)
     }
@@ -254,6 +261,7 @@ impl Runtime {
         ensures heap { self.new.heap ≡ self.old.heap }
         ensures answer { result ≡ get self.old.finalizers.cleanups number }
         ensures follows { Follows self.old.finalizers.state (Cancel number) self.new.finalizers.state }
+        ensures room { IsRoomier self.old.finalizers.rooms self.new.finalizers.rooms }
     {
         self.finalizers.cancel(number)
     }
@@ -269,6 +277,7 @@ impl Runtime {
     pub fn take(&mut self) -> Option<Entry>
         ensures heap { self.new.heap ≡ self.old.heap }
         ensures taken { MatchOption result ((waiting self.old.finalizers.state ≡ []) × (self.new.finalizers.state ≡ self.old.finalizers.state)) (λ entry. Follows self.old.finalizers.state (Take entry) self.new.finalizers.state) }
+        ensures room { IsRoomier self.old.finalizers.rooms self.new.finalizers.rooms }
     {
         self.finalizers.take()
     }
@@ -279,20 +288,21 @@ impl Runtime {
         ensures judged { IsJudgedBy (finish_causes self.old.finalizers.held entry.now) result }
         ensures refused { OnErr result (self.new.finalizers.state ≡ self.old.finalizers.state) }
         ensures follows { OnOk result (Follows self.old.finalizers.state (Finish entry.now) self.new.finalizers.state) }
+        ensures room { IsRoomier self.old.finalizers.rooms self.new.finalizers.rooms }
     {
         self.finalizers.finish(entry)
     }
 
     /// Why a record isn't finalized, as `fz_why::why` says.
     pub fn why(&self, alloc: Global, id: RecordId) -> Result<Reason, NoMemory>
-        ensures told { IfOk result (λ reason. IsToldOf place_of_link value_of (objects_of self.now.heap.records.slots.items) (addresses_of self.now.heap.roots.items) self.now.finalizers.state reason (address_of id.place)) }
+        ensures told { IfOk result (λ reason. IsToldOfRecord self.now.heap.records.slots.items self.now.heap.roots.items self.now.finalizers.state reason id) }
     {
         why(alloc, &self.finalizers, &self.heap, id.address())
     }
 
     /// Which records wait for a ring, as `fz_why::stuck` says, by their addresses.
     pub fn stuck(&self, alloc: Global) -> Result<Vec<Addr>, NoMemory>
-        ensures listed { IfOk result (λ objects. WithFound place_of_link value_of (objects_of self.now.heap.records.slots.items) (addresses_of self.now.heap.roots.items) self.now.finalizers.state (λ found. AreStuck place_of_link value_of (objects_of self.now.heap.records.slots.items) self.now.finalizers.state found (registrations_in_order self.now.finalizers) objects.items)) }
+        ensures listed { IfOk result (λ objects. AreStuckRecords self.now.heap.records.slots.items self.now.heap.roots.items self.now.finalizers.state (registrations_in_order self.now.finalizers) objects.items) }
     {
         stuck(alloc, &self.finalizers, &self.heap)
     }

@@ -1,13 +1,14 @@
 //! What C holds of a line and of a seat.
 
-ghost use Rattle.std.specs.Prelude.{Option};
+ghost use Rattle.std.specs.Prelude.{◌≡◌, Option};
 ghost use Rattle.std.specs.Coded.{coded_option};
 ghost use Rattle.fz_c.specs.Pointers.{maybe_owns};
 ghost use Rattle.fz_c.specs.contracts.line.line_session.LineSession as Line;
 ghost use Rattle.fz_c.specs.contracts.line.seat_session.SeatSession as Seat;
 
-mod pointers;
-
+use crate::handle::{Handle, Pointer};
+use crate::line::line_session::LineSession;
+use crate::line::seat_session::SeatSession;
 use std::alloc::Global;
 use std::marker::Model;
 
@@ -27,6 +28,32 @@ impl Model for LineHandle {
 // What a handle owns may be sent to another thread: `proofs/line/handle/LineHandle/TheSendSync/Send.antt`.
 unsafe impl Send for LineHandle {}
 
+impl Handle for LineHandle {
+    type Session = LineSession;
+
+    ghost held = { λ h. h.value };
+
+    fn of(pointer: Pointer<LineSession>) -> LineHandle
+        ensures { result.value ≡ pointer.value }
+    {
+        let Pointer { at, alloc } = pointer;
+        LineHandle {
+            at: at as *mut u8,
+            alloc,
+        }
+    }
+
+    fn into_pointer(self) -> Pointer<LineSession>
+        ensures { result.value ≡ self.value }
+    {
+        let LineHandle { at, alloc } = self;
+        Pointer {
+            at: at as *mut LineSession,
+            alloc,
+        }
+    }
+}
+
 /// A boxed session of a seat as a raw pointer, or null if there is none. C initializes it to null and never copies it.
 #[repr(C)]
 #[derive(Drop)]
@@ -42,3 +69,29 @@ impl Model for SeatHandle {
 
 // What a handle owns may be sent to another thread: `proofs/line/handle/SeatHandle/TheSendSync/Send.antt`.
 unsafe impl Send for SeatHandle {}
+
+impl Handle for SeatHandle {
+    type Session = SeatSession;
+
+    ghost held = { λ h. h.value };
+
+    fn of(pointer: Pointer<SeatSession>) -> SeatHandle
+        ensures { result.value ≡ pointer.value }
+    {
+        let Pointer { at, alloc } = pointer;
+        SeatHandle {
+            at: at as *mut u8,
+            alloc,
+        }
+    }
+
+    fn into_pointer(self) -> Pointer<SeatSession>
+        ensures { result.value ≡ self.value }
+    {
+        let SeatHandle { at, alloc } = self;
+        Pointer {
+            at: at as *mut SeatSession,
+            alloc,
+        }
+    }
+}

@@ -1,6 +1,6 @@
 //! What a line's handle points to.
 
-ghost use Rattle.std.specs.Prelude.{◌≡◌, [], ◌∷◌, ◌++◌, length, IfErr, IfOk, OnOk, IfSome};
+ghost use Rattle.std.specs.Prelude.{◌≡◌, length};
 ghost use Rattle.fz_c.specs.Lines.{Publishes};
 
 use crate::line::codes::{Code, NOT_NEXT, OK};

@@ -1,12 +1,12 @@
 //! What C holds of finalizers.
 
-ghost use Rattle.std.specs.Prelude.{Option};
+ghost use Rattle.std.specs.Prelude.{◌≡◌, Option};
 ghost use Rattle.std.specs.Coded.{coded_option};
 ghost use Rattle.fz_c.specs.Pointers.{maybe_owns};
 ghost use Rattle.fz_c.specs.contracts.machine.session.MachineSession as Behind;
 
-mod pointers;
-
+use crate::handle::{Handle, Pointer};
+use crate::machine::session::MachineSession;
 use std::alloc::Global;
 use std::marker::Model;
 
@@ -25,3 +25,29 @@ impl Model for MachineHandle {
 
 // What a handle owns may be sent to another thread: `proofs/machine/handle/MachineHandle/TheSendSync/Send.antt`.
 unsafe impl Send for MachineHandle {}
+
+impl Handle for MachineHandle {
+    type Session = MachineSession;
+
+    ghost held = { λ h. h.value };
+
+    fn of(pointer: Pointer<MachineSession>) -> MachineHandle
+        ensures { result.value ≡ pointer.value }
+    {
+        let Pointer { at, alloc } = pointer;
+        MachineHandle {
+            at: at as *mut u8,
+            alloc,
+        }
+    }
+
+    fn into_pointer(self) -> Pointer<MachineSession>
+        ensures { result.value ≡ self.value }
+    {
+        let MachineHandle { at, alloc } = self;
+        Pointer {
+            at: at as *mut MachineSession,
+            alloc,
+        }
+    }
+}

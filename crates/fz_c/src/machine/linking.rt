@@ -3,7 +3,6 @@
 ghost use Rattle.std.specs.Prelude.{◌≡◌};
 ghost use Rattle.fz_c.specs.MachineChanges.{Links, MovesLink, Unlinks};
 ghost use Rattle.fz_c.specs.MachineCodes.{Behind};
-ghost use Rattle.fz_c.specs.Values.{link_kind_of};
 
 use crate::handle::behind;
 use crate::kinds::kind_for;

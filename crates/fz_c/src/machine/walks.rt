@@ -1,6 +1,6 @@
 //! Iterating over registrations, links, ephemerons and cleanups, a buffer at a time. This changes nothing, and works while a pass is open.
 
-ghost use Rattle.std.specs.Prelude.{◌≡◌, ◌≤◌, ◌<◌, ◌+◌, length, map, min, take};
+ghost use Rattle.std.specs.Prelude.{◌≡◌, ◌<◌, ◌+◌, length, map, min, take};
 ghost use Rattle.fz_c.specs.MachineCodes.{Behind};
 ghost use Rattle.fz_c.specs.MachineShows.{ShowsCleanups, ShowsEphemerons, ShowsLinks, ShowsRegistrations, cleanup_told, link_told, registration_told};
 ghost use Rattle.fz_c.specs.Values.{link_kind_of};

@@ -1,13 +1,13 @@
 //! What C holds of a world.
 
-ghost use Rattle.std.specs.Prelude.{Option};
+ghost use Rattle.std.specs.Prelude.{◌≡◌, Option};
 ghost use Rattle.std.specs.Coded.{coded_option};
 ghost use Rattle.fz_c.specs.Pointers.{maybe_owns};
 ghost use Rattle.fz_c.specs.Owned.{Held};
 ghost use Rattle.fz_c.specs.contracts.world.session.WorldSession as Behind;
 
-mod pointers;
-
+use crate::handle::{Handle, Pointer};
+use crate::world::session::WorldSession;
 use std::alloc::Global;
 use std::marker::Model;
 
@@ -26,3 +26,29 @@ impl Model for WorldHandle {
 
 // What a handle owns may be sent to another thread: `proofs/world/handle/WorldHandle/TheSendSync/Send.antt`.
 unsafe impl Send for WorldHandle {}
+
+impl Handle for WorldHandle {
+    type Session = WorldSession;
+
+    ghost held = { λ h. h.value };
+
+    fn of(pointer: Pointer<WorldSession>) -> WorldHandle
+        ensures { result.value ≡ pointer.value }
+    {
+        let Pointer { at, alloc } = pointer;
+        WorldHandle {
+            at: at as *mut u8,
+            alloc,
+        }
+    }
+
+    fn into_pointer(self) -> Pointer<WorldSession>
+        ensures { result.value ≡ self.value }
+    {
+        let WorldHandle { at, alloc } = self;
+        Pointer {
+            at: at as *mut WorldSession,
+            alloc,
+        }
+    }
+}

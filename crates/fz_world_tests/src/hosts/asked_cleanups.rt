@@ -1,10 +1,10 @@
 //! Cleanups of finalizers that ask questions: the worked rows, random graphs, and passes that are answered in parts or abandoned.
 
-use crate::equal::{at, must_be};
+use crate::equal::{at, must_be, push};
 use crate::hosts::asked::Asked;
 use crate::hosts::beside::Random;
 use crate::hosts::cleanups::{Plain, ROWS, Step, drawn, due, found, retained};
-use crate::hosts::why::{COUNT, has, push};
+use crate::hosts::sets::{COUNT, has};
 use fz_finalizers::{Cleanup, Entry, Finalizer, Kind, LinkKind};
 use fz_machine::{BATCH, Machine, Next};
 use fz_model::LinkKind::{Long, Short};

@@ -1,8 +1,7 @@
 //! Ephemerons of finalizers that ask questions: the worked rows over a graph. Each row is a table of steps.
 
-use crate::equal::{at, must_be};
+use crate::equal::{at, must_be, push};
 use crate::hosts::asked::Asked;
-use crate::hosts::why::push;
 use fz_finalizers::LinkKind::{Long, Short};
 use fz_finalizers::{Finalizer, Kind, LinkKind};
 use std::alloc::Global;

@@ -1,8 +1,8 @@
 //! Cleanups of records: worked rows, and random graphs whose queues a plain reading checks.
 
-use crate::equal::{at, must_be};
+use crate::equal::{at, must_be, push};
 use crate::hosts::beside::Random;
-use crate::hosts::why::{COUNT, has, push, set};
+use crate::hosts::sets::{COUNT, any, has, set};
 use fz_finalizers::{Cleanup, Entry, Finalizer, Kind, LinkKind};
 use fz_model::LinkKind::{Long, Short};
 use own_heap::Field::{Nothing, Reference};
@@ -331,7 +331,7 @@ fn furnish(
 ) -> u64 {
     let mut number = first;
     if random.below(2) == 0 {
-        let to = random.below(COUNT as u64) as usize;
+        let to = any(random);
         push(rt, &mut plain.words, (record, to));
         carry_out(rt, records, Step::Refer(record, to));
     }
@@ -347,7 +347,7 @@ fn furnish(
     for _ in 0..random.below(3) {
         let when = if random.below(2) == 0 { Short } else { Long };
         let rank = (random.below(u64::from(RANKS)) % 256) as u8;
-        let other = random.below(COUNT as u64) as usize;
+        let other = any(random);
         let data = (random.below(6) == 0).then_some(other);
         push(rt, &mut plain.cleanups, (number, record, when, rank, data));
         carry_out(rt, records, Step::Attach(record, when, number, data, rank));

@@ -1,7 +1,6 @@
 //! Ephemerons of records: worked rows, and a long chain of ephemeron pairs.
 
-use crate::equal::{at, must_be};
-use crate::hosts::why::push;
+use crate::equal::{at, must_be, push};
 use fz_finalizers::{Finalizer, Kind, LinkKind, MoveAnswer, Refused};
 use fz_model::LinkKind::{Long, Short};
 use own_heap::Field::{Hidden, Nothing, Reference};
@@ -186,6 +185,13 @@ pub(crate) fn carry_out(rt: &impl Abort, stage: &mut Stage, step: Step) {
     }
 }
 
+/// Carries out steps, one after the other.
+fn carry_out_all(rt: &impl Abort, stage: &mut Stage, steps: &[Step]) {
+    for step in steps {
+        carry_out(rt, stage, *step);
+    }
+}
+
 /// The value of a row leads to its key. Once nothing else does, both go, and the row: a new record at the key's address doesn't bring it back.
 const A_VALUE_LEADS_TO_ITS_KEY: [Step; 23] = [
     Make(0),
@@ -316,54 +322,34 @@ const ROWS: [&[Step]; 5] = [
 fn ephemerons_of_worked_rows(rt: HostRuntime) {
     for steps in ROWS {
         let mut stage = open(&rt, rt.alloc());
-        for step in steps {
-            carry_out(&rt, &mut stage, *step);
-        }
+        carry_out_all(&rt, &mut stage, steps);
     }
 }
+
+/// Two fields of a record are ephemerons of one key.
+const TWO_EPHEMERONS_OF_A_KEY: [Step; 4] = [
+    Make(0),
+    Make(1),
+    Keyed(Short, 0, 0, 1),
+    Keyed(Long, 0, 1, 1),
+];
 
 /// An ephemeron moves with its key, and ends.
 #[test]
 fn an_ephemeron_moves_and_ends(rt: HostRuntime) {
     let mut stage = open(&rt, rt.alloc());
-    for step in [
-        Make(0),
-        Make(1),
-        Keyed(Short, 0, 0, 1),
-        Keyed(Long, 0, 1, 1),
-    ] {
-        carry_out(&rt, &mut stage, step);
-    }
+    carry_out_all(&rt, &mut stage, &TWO_EPHEMERONS_OF_A_KEY);
     let (id, key) = (id_of(&rt, &stage, 0), id_of(&rt, &stage, 1));
     let from = id.word(0);
     let runtime = &mut stage.runtime;
-    must_be(
-        &rt,
-        runtime.move_ephemeron(from, 0),
-        Err(Refused::Zero),
-        "0",
-    );
-    let none = Ok(MoveAnswer::NotFound);
-    must_be(
-        &rt,
-        runtime.move_ephemeron(id.word(2), OUTSIDE),
-        none,
-        "none",
-    );
-    let duplicate = Ok(MoveAnswer::Duplicate);
-    must_be(
-        &rt,
-        runtime.move_ephemeron(from, id.word(1)),
-        duplicate,
-        "the other's",
-    );
-    let moved = Ok(MoveAnswer::Success);
-    must_be(
-        &rt,
-        runtime.move_ephemeron(from, OUTSIDE),
-        moved,
-        "out of the heap",
-    );
+    for (word, to, want, what) in [
+        (from, 0, Err(Refused::Zero), "0"),
+        (id.word(2), OUTSIDE, Ok(MoveAnswer::NotFound), "none"),
+        (from, id.word(1), Ok(MoveAnswer::Duplicate), "the other's"),
+        (from, OUTSIDE, Ok(MoveAnswer::Success), "out of the heap"),
+    ] {
+        must_be(&rt, runtime.move_ephemeron(word, to), want, what);
+    }
     must_be(&rt, runtime.key(from), None, "it left");
     let kept = Some((Short, key.address()));
     must_be(&rt, runtime.key(OUTSIDE), kept, "the same key");

@@ -1,12 +1,12 @@
 //! Random graphs with ephemerons, whose collections a plain reading checks.
 
-use crate::equal::must_be;
+use crate::equal::{must_be, push};
 use crate::hosts::beside::Random;
 use crate::hosts::ephemerons::Step::{
     Hide, Hides, Key, Keyed, Make, Refer, Register, Slot, Stands,
 };
 use crate::hosts::ephemerons::{Stage, carry_out, open};
-use crate::hosts::why::{COUNT, has, push, set};
+use crate::hosts::sets::{COUNT, any, has, set};
 use fz_model::LinkKind;
 use fz_model::LinkKind::{Long, Short};
 use std::alloc::Global;
@@ -24,11 +24,6 @@ struct Plain {
     rows: Vec<Row>,
     roots: Vec<usize>,
     registered: Vec<usize>,
-}
-
-/// A record of a graph.
-fn any(random: &mut Random) -> usize {
-    random.below(COUNT as u64) as usize
 }
 
 /// A random graph. A slot refers to each root.

@@ -1,12 +1,12 @@
 //! What C holds of a copy.
 
-ghost use Rattle.std.specs.Prelude.{Option};
+ghost use Rattle.std.specs.Prelude.{◌≡◌, Option};
 ghost use Rattle.std.specs.Coded.{coded_option};
 ghost use Rattle.fz_c.specs.Pointers.{maybe_owns};
 ghost use Rattle.fz_c.specs.contracts.machine.snapshot.session.SnapshotSession as Behind;
 
-mod pointers;
-
+use crate::handle::{Handle, Pointer};
+use crate::machine::snapshot::session::SnapshotSession;
 use std::alloc::Global;
 use std::marker::Model;
 
@@ -25,3 +25,29 @@ impl Model for SnapshotHandle {
 
 // What a handle owns may be sent to another thread: `proofs/machine/snapshot/handle/SnapshotHandle/TheSendSync/Send.antt`.
 unsafe impl Send for SnapshotHandle {}
+
+impl Handle for SnapshotHandle {
+    type Session = SnapshotSession;
+
+    ghost held = { λ h. h.value };
+
+    fn of(pointer: Pointer<SnapshotSession>) -> SnapshotHandle
+        ensures { result.value ≡ pointer.value }
+    {
+        let Pointer { at, alloc } = pointer;
+        SnapshotHandle {
+            at: at as *mut u8,
+            alloc,
+        }
+    }
+
+    fn into_pointer(self) -> Pointer<SnapshotSession>
+        ensures { result.value ≡ self.value }
+    {
+        let SnapshotHandle { at, alloc } = self;
+        Pointer {
+            at: at as *mut SnapshotSession,
+            alloc,
+        }
+    }
+}

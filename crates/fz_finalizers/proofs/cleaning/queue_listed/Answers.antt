@@ -5,7 +5,7 @@ use Rattle.fz_finalizers.proofs.Cleaned.{takes_none, still_there, takes_more, ta
 use Rattle.fz_finalizers.proofs.cleaning.queue_listed.Goals as goal
 
 pub loop-entry-init : goal.loop-entry-init
-loop-entry-init c = record { taken = takes_none c.args.pass c.args.listed.now c.args.cleanups.now.cleanups c.args.queue.now; count = refl; fewer = omega arith; room = omega arith }
+loop-entry-init c = record { taken = takes_none c.args.pass c.args.listed.now c.args.cleanups.now.cleanups c.args.queue.now; count = refl; fewer = omega arith; room = omega arith; places = omega arith }
 
 pub take-pick-requires : goal.take-pick-requires
 take-pick-requires c = record {
@@ -25,6 +25,7 @@ loop-entry-preserved c =
       count = omega (arith, inv.count, e.count, long);
       fewer = omega (arith, inv.fewer, e.count);
       room = omega (arith, inv.room, e.count, c.push.ensures.room);
+      places = omega (arith, inv.places, e.room);
     }
 
 pub returns-clause-taken : goal.returns-clause-taken

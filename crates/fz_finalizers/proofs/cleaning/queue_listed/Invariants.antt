@@ -10,4 +10,5 @@ invariant-loop-entry l = record {
   count : length l.queue.queue + len l.cleanups.cleanups ≡ length l.initial.queue.queue + len l.initial.cleanups.cleanups;
   fewer : len l.cleanups.cleanups ≤ len l.initial.cleanups.cleanups;
   room : l.initial.queue.room + len l.cleanups.cleanups ≤ l.queue.room + len l.initial.cleanups.cleanups;
+  places : l.initial.cleanups.room ≤ l.cleanups.room;
 }

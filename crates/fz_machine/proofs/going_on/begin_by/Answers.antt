@@ -43,7 +43,7 @@ returns c =
           (subst (λ (told : List (ℕ × ℕ)). Begins c.args.from (swept sweep) (going f walk (told_for tables (swept sweep))) (going f new told)) (sym (swept_told after sweep)) (swept_begins c.args.from f walk new c.begin_swept.ensures.others sweep tables c.begin_swept.ensures.listed));
       order = record {
         room = subst (λ (p : Phase). HaveRoom (settles p) s new) (sym is) (swept_room c.args.from f walk new c.begin_swept.ensures.others s sweep (subst (λ (p : Phase). HaveRoom (follows_settling p) s walk) is c.requires.room));
-        room_off = subst (λ (p : Phase). HasRoomOff (settles p) new) (sym is) (swept_room_off c.args.from f walk new c.begin_swept.ensures.others sweep);
+        room_off = subst (λ (p : Phase). HasRoomOff (settles p) new) (sym is) (swept_room_off c.args.from f walk new c.begin_swept.ensures.others sweep (subst (λ (p : Phase). HasRoomOff (follows_settling p) walk) is c.requires.off));
         tables = subst (λ (p : Phase). AreTables s after (Some p)) (sym is) (swept_tables s tables after sweep ready c.begin_swept.ensures.changes c.begin_swept.ensures.renoted);
       };
       more = swept_more s tables after sweep ready c.begin_swept.ensures.changes c.begin_swept.ensures.renoted;

@@ -56,7 +56,7 @@ returns-in_default-clause-goes c =
 pub returns-in_default-clause-order : goal.returns-in_default-clause-order
 returns-in_default-clause-order c = record {
   room = subst (λ (p : Phase). HaveRoom (settles p) c.stays.new.finalizers.state c.stays.new.walk) (last c) c.stays.ensures.order.room;
-  room_off = subst (λ (p : Phase). HasRoomOff (settles p) c.stays.new.walk) (last c) c.stays.ensures.order.room_off;
+  room_off = tt;
   tables = ended_tables c.stays.new.finalizers.state c.loop-phase.tables c.loop-phase.phase (not_sweep c) c.stays.ensures.order.tables;
 }
 

@@ -1,6 +1,10 @@
-use Rattle.std.proofs.Common.{◌+◌, ◌≤◌, arith}
+use Rattle.std.proofs.Common.{◌+◌, ◌≤◌, arith, ap}
 use Rattle.std.specs.FinMap.{len}
+use Rattle.fz_table.specs.Registered.{Registered}
+use Rattle.fz_finalizers.specs.States.{View}
 use Rattle.fz_finalizers.proofs.Fitting.{added_fits, can_add}
+use Rattle.fz_finalizers.proofs.Counting.{len_grown}
+use Rattle.fz_finalizers.proofs.Roomy.{entry_used}
 use Rattle.fz_finalizers.proofs.finalizers.Finalizers.add_cleanup.Goals as goal
 
 pub invariant_of-self-2 : goal.invariant_of-self-2
@@ -11,3 +15,12 @@ invariant_of-self-2 c =
           (λ j. record { registered = c.take_number.ensures.taken j; late = c.take_number.ensures.late j }) c.in_ok-add.ensures.added c.reserve.ensures.same.0 room (can_add i.cleanups.cleanups i.table.next_number c.args.object c.in_ok-check.ensures).0,
       c.self.invariant.1,
     )
+
+pub returns-clause-room : goal.returns-clause-room
+returns-clause-room c =
+    let i = c.self.inside in
+    let count = ap len c.in_ok-add.ensures.added in
+    let grown = len_grown i.cleanups.cleanups c.next_number-number.result (record { object = c.args.object; cleanup = c.args.cleanup }) in
+    let registered = ap (λ (t : Registered). len t.registrations) c.take_number.ensures.taken in
+    entry_used i c.args.self.now.rooms (ap (λ (v : View). v.rooms) c.self.view_is) c.take_number.new.self c.add.new.self c.reserve.new.self
+    (omega (arith, c.take_number.ensures.room)) c.add.ensures.room (omega (arith, count, grown, registered, c.reserve.ensures.kept))

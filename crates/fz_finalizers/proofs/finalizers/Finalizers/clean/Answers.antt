@@ -1,10 +1,11 @@
-use Rattle.std.proofs.Common.{Bool, subst}
+use Rattle.std.proofs.Common.{Bool, subst, ap, arith}
 use Rattle.fz_finalizers.specs.declared.cleanups.Attached.{Attached}
 use Rattle.fz_finalizers.specs.Cleanups.{is_due}
 use Rattle.fz_finalizers.specs.Fits.{state_of}
 use Rattle.fz_finalizers.specs.Follows.{Cleans}
 use Rattle.fz_finalizers.specs.States.{View, KeepsWindow}
 use Rattle.fz_finalizers.proofs.Fitting.{cleaned_fits}
+use Rattle.fz_finalizers.proofs.Roomy.{entries_kept}
 use Rattle.fz_finalizers.proofs.finalizers.Finalizers.clean.Goals as goal
 
 pub invariant_of-self : goal.invariant_of-self
@@ -23,3 +24,9 @@ returns-clause-cleaned g c =
 
 pub returns-clause-memory : goal.returns-clause-memory
 returns-clause-memory g c = subst (λ (v : View). KeepsWindow v.memory c.clean.new.self.memory) c.self.view_is c.clean.ensures.memory
+
+pub returns-clause-room : goal.returns-clause-room
+returns-clause-room g c =
+    let i = c.self.inside in
+    entries_kept i c.args.self.now.rooms (ap (λ (v : View). v.rooms) c.self.view_is) i.table c.clean.new.cleanups c.clean.new.self
+    (omega arith) c.clean.ensures.places (omega (arith, c.clean.ensures.room))

@@ -1,4 +1,4 @@
-use Rattle.std.proofs.Common.{◌≡◌, ◌∙◌, ◌++◌, [], ℕ, List, drop, take, length, Option, Some, None, true≢false, is_some, ap, sym, subst, refl, arith}
+use Rattle.std.proofs.Common.{◌≡◌, ◌∙◌, ◌++◌, [], ℕ, List, drop, take, length, Option, Some, None, is_some, ap, sym, subst, refl, arith}
 use Rattle.std.proofs.lemmas.Option.{none-some}
 use Rattle.fz_machine.specs.Going.{AreAlike, AreTables, HaveRoom}
 use Rattle.fz_machine.specs.Machines.{Machine}
@@ -33,7 +33,7 @@ invariant_of-self c = (
   record {
     room = stopped_rooms (settles c.in-Some.phase) c.self.inside.finalizers.state c.self.inside.walk c.stop.new.self c.stop.ensures.main c.stop.ensures.rows c.stop.ensures.off
         (subst (λ (o : Option Phase). HaveRoom (settles_in o) c.self.inside.finalizers.state c.self.inside.walk) c.in-Some.is c.self.invariant.0.room);
-    room_off = λ on. absurd (true≢false (sym on));
+    room_off = tt;
     tables = subst (λ (ts : List Table). AreTables c.self.inside.finalizers.state ts None) (sym (whole c))
         (c.stop-2.ensures.ended c.self.inside.finalizers.state (subst (λ (ts : List Table). AreTables c.self.inside.finalizers.state ts (Some c.in-Some.phase)) (sym (given c)) (before c)));
   },

@@ -19,7 +19,7 @@ returns-clause-begun c =
         same = refl;
         none = begins.none;
         lists = begins.lists;
-        aside = begins.aside ∙ ap (λ (w : Walk). w.kept) c.clear.ensures;
+        aside = begins.aside ∙ ap (λ (w : Walk). w.kept) c.forget.ensures ∙ ap (λ (w : Walk). w.kept) c.clear.ensures;
         off = begins.off;
         told = refl;
       };

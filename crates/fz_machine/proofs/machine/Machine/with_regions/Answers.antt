@@ -1,4 +1,4 @@
-use Rattle.std.proofs.Common.{◌≡◌, None, true≢false, sym, subst, false}
+use Rattle.std.proofs.Common.{None, false}
 use Rattle.std.proofs.lemmas.Option.{none-some}
 use Rattle.fz_machine.specs.Phases.{swept}
 use Rattle.fz_machine.proofs.Asked.{opened_tables}
@@ -11,7 +11,7 @@ invariant_of-result c =
     let opened = c.in_ok-finalizers.ensures.opened in (
       record {
         room = rooms_of false _ s c.new-2.result opened (rooms_opened c.new-2.result);
-        room_off = λ on. absurd (true≢false (sym on));
+        room_off = tt;
         tables = opened_tables s c.args.by c.in_ok-tables.tables.items opened c.in_ok-tables.ensures;
       },
       tt,

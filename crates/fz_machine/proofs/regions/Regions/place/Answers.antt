@@ -1,50 +1,63 @@
-use Rattle.std.proofs.Common.{◌≡◌, ◌∙◌, ℕ, nat_eq, cond, is_some, length, map, take, List, Some, None, option_map, true, false, ap, sym, subst, refl, bit_or}
-use Rattle.std.proofs.lemmas.Map.Made.{lookup-map_values}
-use Rattle.std.specs.Map.{keys_of, lookup, set_value}
+use Rattle.std.proofs.Common.{◌≡◌, ◌∙◌, ℕ, nat_eq, cond, is_some, length, map, take, List, Option, Some, ap, sym, subst, refl, slice_get, bit_or, arith}
+use Rattle.indexmap.specs.IndexMap.{set_value_at}
+use Rattle.std.proofs.lemmas.Map.Made.{is_some-lookup}
+use Rattle.std.specs.List.{list_any}
+use Rattle.std.specs.Map.{keys_of, lookup}
+use Rattle.std.specs.Option.{IfSome}
 use Rattle.fz_machine.specs.declared.regions.Noted.{Noted}
 use Rattle.fz_machine.specs.Regions.{Regions, IsNoted, placed, worded, region_of}
-use Rattle.fz_machine.proofs.Noting.{found_told, found_there, keys_written, noted_after, noted_still, told_of, told_still, keys_placed}
+use Rattle.fz_machine.proofs.Noting.{found_here, found_told, found_there, keys_placed, keys_set, keys_written, lacking, length_by, noted_after, noted_still, regions_by_keys, worded_set, written_here}
 use Rattle.fz_machine.proofs.regions.Regions.place.Goals as goal
 
-module _ (c : goal.After-self-in_default-2-1) where
-  none : lookup (nat_eq c.region_of-region.result) c.self.inside.noted.entries ≡ None
-  none = sym c.get_mut.ensures.value ∙ ap (option_map (λ x. x.now)) c.in_default.is
-
 pub returns-in_default-clause-there : goal.returns-in_default-clause-there
-returns-in_default-clause-there c = ap is_some (sym (found_there c.self.inside.noted.entries c.args.n c.region_of-region.result c.region_of-region.ensures None (none c))) ∙ ap (λ (r : Regions). is_some (lookup (nat_eq (region_of c.args.n)) r.order)) c.self.view_is
+returns-in_default-clause-there c = sym (ap is_some c.in_default.is) ∙ c.index_of.ensures.there ∙ ap (λ k. is_some (lookup (nat_eq k) c.args.self.now.order)) c.region_of-region.ensures
 
 pub returns-in_default-clause-told : goal.returns-in_default-clause-told
 returns-in_default-clause-told c = λ whole.
-    sym (found_told c.self.inside.noted.entries c.self.inside.heard (ap (λ (r : Regions). keys_of r.told) c.self.view_is ∙ whole ∙ ap (λ (r : Regions). keys_of r.order) (sym c.self.view_is)) c.args.n c.region_of-region.result c.region_of-region.ensures None (none c))
-    ∙ ap (λ (r : Regions). lookup (nat_eq (region_of c.args.n)) r.told) c.self.view_is
+    sym (lacking c.args.self.now.told (region_of c.args.n) (is_some-lookup (nat_eq (region_of c.args.n)) c.args.self.now.told ∙ ap (list_any (nat_eq (region_of c.args.n))) whole ∙ sym (is_some-lookup (nat_eq (region_of c.args.n)) c.args.self.now.order)
+    ∙ sym (ap (λ k. is_some (lookup (nat_eq k) c.args.self.now.order)) c.region_of-region.ensures) ∙ sym c.index_of.ensures.there ∙ ap is_some c.in_default.is))
 
 module _ (c : goal.After-self-2-1) where
+  abbrev region : ℕ
+  region = c.region_of-region.result
+
+  abbrev es : List (ℕ × Noted)
+  es = c.self.inside.noted.entries
+
   abbrev was : Noted
-  was = c.in-Some.noted.now
+  was = c.index-noted.result.now
 
   abbrev with : Noted
-  with = record { places = bit_or c.in-Some.noted.now.places c.bit-place.result; told = c.in-Some.noted.now.told }
+  with = record { places = bit_or c.index-noted.result.now.places c.bit-place.result; told = c.index-noted.result.now.told }
 
-  here : lookup (nat_eq c.region_of-region.result) c.self.inside.noted.entries ≡ Some was
-  here = sym c.get_mut.ensures.value ∙ ap (option_map (λ x. x.now)) c.in-Some.is
+  key : slice_get (keys_of es) c.in-Some.index ≡ Some region
+  key =
+      subst (λ (ks : List ℕ). slice_get ks c.in-Some.index ≡ Some region) (ap (λ (r : Regions). keys_of r.order) (sym c.self.view_is) ∙ keys_placed es)
+      (subst (λ (o : Option ℕ). IfSome o (λ i. slice_get (keys_of c.args.self.now.order) i ≡ Some region)) c.in-Some.is c.index_of.ensures.found)
+
+  here : lookup (nat_eq region) es ≡ Some was
+  here = found_here c.self.inside.noted c.in-Some.index region was with c.self.invariant.2.once key c.index-noted.ensures
 
   abbrev after : List (ℕ × Noted)
-  after = (c.get_mut.follows.lender with).entries
+  after = set_value_at c.self.inside.noted.entries c.in-Some.index with
 
-  written : after ≡ set_value (nat_eq c.region_of-region.result) c.self.inside.noted.entries with
-  written = (c.get_mut.follows.holds with).0
+  updated : (q : ℕ) → lookup (nat_eq q) after ≡ cond (nat_eq region q) (Some with) (lookup (nat_eq q) es)
+  updated = written_here c.self.inside.noted c.in-Some.index region was with c.self.invariant.2.once key c.index-noted.ensures
 
-  updated : (q : ℕ) → lookup (nat_eq q) after ≡ cond (nat_eq c.region_of-region.result q) (Some with) (lookup (nat_eq q) c.self.inside.noted.entries)
-  updated = ((c.get_mut.follows.holds with).3 (ap is_some here)).0
+  keys : keys_of after ≡ keys_of es
+  keys = keys_set es c.in-Some.index with
 
-  keys : keys_of after ≡ keys_of c.self.inside.noted.entries
-  keys = (c.get_mut.follows.holds with).1
+pub invariant_of-self : goal.invariant_of-self
+invariant_of-self c =
+    let le = c.self.invariant.0 in
+    let within = c.self.invariant.1 in
+    let long = length_by (es c) (after c) (keys c) in (le, omega (arith, within, long), regions_by_keys (es c) (after c) (keys c) c.self.invariant.2)
 
 pub returns-clause-same : goal.returns-clause-same
 returns-clause-same c =
     let es = c.self.inside.noted.entries in
     let told : map worded (take c.self.inside.heard (after c)) ≡ c.args.self.now.told =
-    ap (λ xs. map worded (take c.self.inside.heard xs)) (written c) ∙ told_still (nat_eq c.region_of-region.result) (was c) (with c) refl es c.self.inside.heard (here c) ∙ ap (λ (r : Regions). r.told) c.self.view_is in
+    worded_set es c.self.inside.heard c.in-Some.index (was c) (with c) c.index-noted.ensures refl ∙ ap (λ (r : Regions). r.told) c.self.view_is in
     let left = keys_written c.self.inside.heard c.self.inside.end (after c) es (keys c) ∙ ap (λ (r : Regions). r.left) c.self.view_is in
     let asked = ap (λ (r : Regions). r.asked) c.self.view_is in
     let complete = ap (λ (r : Regions). r.complete) c.self.view_is in

@@ -3,7 +3,6 @@ use Rattle.own_heap.specs.Marking.{IsAmong}
 use Rattle.own_heap.proofs.Slots.{pointed_among}
 use Rattle.own_heap.specs.Records.{word_of, objects_of}
 use Rattle.fz_model.specs.Memory.{points}
-use Rattle.own_heap.proofs.records.Records.add_target.Goals.{then-but_itself, else-but_itself}
 use Rattle.own_heap.proofs.records.Records.add_target.Goals as goal
 
 pub add-requires : goal.add-requires

@@ -1,4 +1,4 @@
-use Rattle.std.proofs.Common.{◌-◌, None, sym, ap, ◌∙◌}
+use Rattle.std.proofs.Common.{◌-◌, sym, ap, ◌∙◌}
 use Rattle.fz_model.specs.Memory.{points}
 use Rattle.own_heap.specs.Records.{objects_of}
 use Rattle.own_heap.proofs.Valued.{low_in, value_in, value_none}
