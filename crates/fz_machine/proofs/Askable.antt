@@ -1,5 +1,5 @@
 -- A host that answers for a graph is asked only what it may be asked.
-use Rattle.std.proofs.Common.{◌≡◌, ◌∷◌, [], ℕ, List, None, Option, Some, sym, subst}
+use Rattle.std.proofs.Common.{◌∷◌, [], ℕ, List, None, Option, Some, sym, subst}
 use Rattle.fz_model.specs.State.{Map, Object}
 use Rattle.fz_finalizers.specs.States.{State}
 use Rattle.fz_machine.specs.declared.item.Item.{Item}

@@ -1,12 +1,11 @@
 -- A question of a pass, and what comes before it.
-use Rattle.std.proofs.Common.{All, ◌≡◌, ◌≢◌, ◌∙◌, ◌≤◌, ◌<◌, ◌+◌, ◌-◌, ◌/◌, ◌++◌, ◌⊎◌, ℕ, zero, suc, min, Bool, true, false, cond, true≢false, slice_index_or, List, [], ◌∷◌, map, take, drop, zip, length, slice_get, is_some, Option, Some, None, IsTrue, inl, inr, refl, ap, sym, subst, ⊎_elim, append-nil, append_assoc, arith}
+use Rattle.std.proofs.Common.{All, ◌≡◌, ◌≢◌, ◌∙◌, ◌≤◌, ◌<◌, ◌-◌, ◌++◌, ℕ, zero, suc, min, Bool, true, false, cond, true≢false, slice_index_or, List, [], ◌∷◌, map, take, drop, zip, length, slice_get, is_some, Option, Some, None, IsTrue, refl, ap, sym, subst, ⊎_elim, append-nil, append_assoc, arith}
 use Rattle.std.proofs.lemmas.List.{drop_all, take_all, get_or-map, length-drop, length-take, map-append, take-append-drop}
 use Rattle.std.proofs.Math.Seq.{take-nil}
 use Rattle.std.proofs.lemmas.Option.{none-some, same_Some}
-use Rattle.std.specs.FinMap.{get, get-empty, empty}
+use Rattle.std.specs.FinMap.{get-empty}
 use Rattle.std.specs.Map.{keys_of}
 use Rattle.std.specs.Ordering.{nat_cmp}
-use Rattle.fz_finalizers.specs.declared.cleanups.Attached.{Attached}
 use Rattle.fz_finalizers.specs.States.{State, View, opening}
 use Rattle.fz_machine.specs.declared.item.Item.{Item}
 use Rattle.fz_machine.specs.declared.machine.By.{By}
@@ -17,8 +16,8 @@ use Rattle.fz_machine.specs.declared.phase.Sweep.{Sweep}
 use Rattle.fz_machine.specs.declared.phase.Sweep.TheVariants as sweeps
 use Rattle.fz_machine.specs.declared.question.Ask.{Ask}
 use Rattle.fz_machine.specs.declared.question.Question.{Question}
-use Rattle.fz_machine.specs.Going.{AreAlike, AreFewer, AreNoMore, AreTables, AsksNone, Changes, HasAsk, HasRoom, HasRoomOff, HasRoomOffIn, HaveRoom, IsInOrder, IsSameRoom, IsTable, Lacks, asked_in, ephemerons_in, going, is_by, left_in, noted_by, questions_by, questions_in, questions_of, questions_to_come, swept_in, told_in}
-use Rattle.fz_machine.specs.Machines.{Answers, AsksItems, AsksRegions, GoesTo, Heard, KeepsRegions, Machine, Tells, Words, going_of, heard_by, is_noted, questions_left}
+use Rattle.fz_machine.specs.Going.{AreAlike, AreFewer, AreNoMore, AreTables, AsksNone, Changes, HasAsk, HasRoom, HasRoomOff, HasRoomOffIn, HaveRoom, IsInOrder, IsSameRoom, IsTable, Lacks, asked_in, ephemerons_in, going, left_in, noted_by, questions_by, questions_of, questions_to_come, told_in}
+use Rattle.fz_machine.specs.Machines.{Answers, AsksItems, AsksRegions, GoesTo, Heard, Machine, Tells, Words, going_of, heard_by, questions_left}
 use Rattle.fz_machine.specs.Phases.{asks, settles, settles_in, swept, sweep_ask}
 use Rattle.fz_machine.specs.Regions.{Regions as Table, AreNoted, IsOfSweep, IsUntold, index_of, no_regions, place_in, table_at}
 use Rattle.fz_machine.specs.Steps.{Going, GoesOn, IsQuestion, steps}

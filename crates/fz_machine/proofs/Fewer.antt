@@ -29,7 +29,6 @@ use Rattle.fz_machine.specs.declared.phase.Sweep.{Sweep}
 use Rattle.fz_machine.specs.declared.phase.Sweep.TheVariants as sweeps
 use Rattle.fz_machine.specs.Heard.{Begun, Goes, Hears, Learns, Meanwhile, PassesEnd, Told}
 use Rattle.fz_machine.specs.Items.{AreCleanups, AreEntriesOf, AreEphemerons, AreLinks, AreObjects, is_still, of_cleanup, of_link, of_stored, target_of, word_of}
-use Rattle.fz_machine.specs.Machines as machines
 use Rattle.fz_machine.specs.Machines.{IsWork, Machine, Tells, TellsIn, Words, going_of, heard_by}
 use Rattle.fz_machine.specs.Off.{PutOff, TellsOff, all_off, looked_at, looking, looks_again, none_off, put_off, stuck_with}
 use Rattle.fz_machine.specs.Phases.{Lists, after, aside_in, asks, behind, given, keeps, next_phase, off_in, swept}

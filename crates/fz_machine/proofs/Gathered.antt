@@ -1,12 +1,11 @@
 -- One more item of a question.
-use Rattle.std.proofs.Common.{◌≡◌, ◌≤◌, ◌<◌, ◌+◌, ◌++◌, ◌∷◌, ◌∙◌, ◌&&◌, [], ℕ, List, All, Option, Some, None, cond, refl, length, map, take, set, slice_get, get_or, true, nat_lt, ltb-true, sym, ap, subst, arith}
+use Rattle.std.proofs.Common.{◌≡◌, ◌≤◌, ◌<◌, ◌+◌, ◌++◌, ◌∷◌, ◌∙◌, ◌&&◌, [], ℕ, List, All, Some, None, cond, refl, length, map, take, set, slice_get, get_or, true, nat_lt, ltb-true, sym, ap, subst, arith}
 use Rattle.std.proofs.lemmas.List.{take_more, take_more_set, map-append}
 use Rattle.std.proofs.lemmas.List.Elements.{All-push}
 use Rattle.std.proofs.lemmas.Option.{get_or_from_slice_get, slice_get-get_or, slice_get_within}
 use Rattle.fz_machine.specs.declared.item.Item.{Item}
 use Rattle.fz_machine.specs.declared.phase.Phase.{Phase}
 use Rattle.fz_machine.specs.declared.question.Ask.{Ask}
-use Rattle.fz_finalizers.specs.declared.kinds.Kind.{Kind}
 use Rattle.fz_machine.specs.declared.phase.Phase.TheVariants.{Children, Picks}
 use Rattle.fz_machine.specs.Phases.{ask_of, asks, child_ask, is_swept, pick_ask, subject}
 use Rattle.fz_machine.specs.Sifts.{is_of_words}

@@ -1,5 +1,5 @@
 -- What words that are true of a graph say about the places of a sweep's items.
-use Rattle.std.proofs.Common.{◌≡◌, ◌∙◌, ◌++◌, ◌∷◌, ◌+◌, ◌*◌, [], ℕ, Bool, true, false, cond, List, Option, Some, None, IsTrue, nat_eq, not, refl, ap, sym, subst}
+use Rattle.std.proofs.Common.{◌≡◌, ◌∙◌, ◌++◌, ◌∷◌, ◌+◌, ◌*◌, [], ℕ, Bool, true, false, cond, List, Option, Some, IsTrue, nat_eq, not, refl, ap, sym, subst}
 use Rattle.std.proofs.lemmas.Bool.{eqb-true, not-true, both_ways, true≢false}
 use Rattle.std.proofs.lemmas.Option.{none-some, same_Some}
 use Rattle.std.specs.Map.{lookup}

@@ -1,5 +1,5 @@
 -- What sweeps are about, as the finalizers change: what goes leaves less of it, and what comes is noted.
-use Rattle.std.proofs.Common.{◌≡◌, ◌≢◌, ◌⊎◌, ◌∷◌, ◌∙◌, [], ℕ, Bool, true, false, true≢false, cond, IsTrue, List, Option, Some, None, Result, Ok, Err, OnOk, OnErr, is_some, not, inl, inr, refl, ap, sym, subst, ⊎_elim}
+use Rattle.std.proofs.Common.{◌≡◌, ◌≢◌, ◌⊎◌, ◌∙◌, ℕ, Bool, true, false, true≢false, cond, IsTrue, List, Option, Some, None, is_some, not, inl, inr, refl, ap, sym, subst, ⊎_elim}
 use Rattle.std.proofs.lemmas.Bool.{cases_eq}
 use Rattle.std.proofs.lemmas.Option.{none-some, same_Some}
 use Rattle.std.specs.FinMap.{contains_key, empty, get, get-empty, insert, remove}

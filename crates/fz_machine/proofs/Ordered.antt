@@ -1,8 +1,8 @@
 -- Cleanups that are listed and sorted are in order.
-use Rattle.std.proofs.Common.{◌&&◌, not, None, nat_le, ◌≡◌, ◌≢◌, ◌≤◌, ◌<◌, ◌+◌, ◌*◌, ◌^◌, ◌++◌, ◌∷◌, ◌∙◌, [], ℕ, zero, suc, Bool, true, false, cond, List, length, filter, map, set, get_or, Some, All, AllPairs, nat_eq, refl, sym, ap, subst, inl, inr, ⊎_elim, append-nil, arith, IsTrue}
+use Rattle.std.proofs.Common.{◌&&◌, not, None, nat_le, ◌≡◌, ◌≢◌, ◌≤◌, ◌<◌, ◌+◌, ◌*◌, ◌^◌, ◌++◌, ◌∷◌, ◌∙◌, [], ℕ, zero, suc, Bool, true, false, cond, List, length, filter, map, set, get_or, Some, All, AllPairs, nat_eq, refl, sym, ap, subst, inl, inr, ⊎_elim, arith, IsTrue}
 use Rattle.std.proofs.lemmas.Bool.{and_parts, both_ways, cases_lt, eq-eqb, eqb-true}
-use Rattle.std.proofs.lemmas.List.{get_or-map, length-map, map-append, map-set}
-use Rattle.std.proofs.lemmas.List.Elements.{All-filter, All-push, filter-append, filter_passes}
+use Rattle.std.proofs.lemmas.List.{get_or-map, length-map, map-set}
+use Rattle.std.proofs.lemmas.List.Elements.{All-filter, All-push, filter_passes}
 use Rattle.std.proofs.lemmas.List.Sorted.{All-permutation, Contains-permutation, IsPermutation-map}
 use Rattle.std.proofs.lemmas.Map.Keys.{IsDistinct-IsPermutation, apart_from_distinct}
 use Rattle.std.proofs.lemmas.Map.Made.{IsDistinct-keys_filter}

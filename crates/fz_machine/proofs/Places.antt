@@ -1,12 +1,12 @@
 -- The places of a region, and the bits of words for them.
-use Rattle.std.proofs.Common.{◌≡◌, ◌≢◌, ℕ, min, zero, suc, ◌+◌, ◌*◌, ◌%◌, ◌^◌, ◌<◌, ◌≤◌, Bool, true, false, cond, not, ◌&&◌, List, [], ◌∷◌, filter, nat_eq, refl, sym, ap, subst, ◌∙◌, ⊎_elim, arith, w64, bit_and, bit_or}
+use Rattle.std.proofs.Common.{◌≡◌, ◌≢◌, ℕ, min, ◌+◌, ◌*◌, ◌%◌, ◌^◌, ◌<◌, Bool, true, false, not, ◌&&◌, nat_eq, refl, sym, ap, ◌∙◌, arith, w64, bit_and, bit_or}
 use Rattle.std.proofs.lemmas.Bool.{ne_eqb}
 use Rattle.std.proofs.lemmas.Nat.{pow_pos}
 use Rattle.std.proofs.lemmas.Nat.Bits.{and_pow, bit_at_and, bit_at_or, bit_at-pow_same, bit_at-pow_other, bit_at_clear_same, bit_at_clear_other, bit_at-lt}
 use Rattle.std.proofs.Math.Pow.{pow-lt}
 use Rattle.std.specs.Int.{bit_at, bit_not}
 use Rattle.fz_model.specs.Bits.{has_bit}
-use Rattle.fz_model.proofs.Bits.{bit_on, bit_off, on_bit, off_bit, no_bits, not_bit}
+use Rattle.fz_model.proofs.Bits.{bit_on, bit_off, on_bit, off_bit, not_bit}
 use Rattle.fz_machine.specs.Regions.{place_in, region_of}
 
 -- ---- one bit

@@ -1,5 +1,5 @@
 -- What holds of a machine between passes, while calls change its finalizers and note what comes.
-use Rattle.std.proofs.Common.{◌≡◌, ◌≢◌, ◌⊎◌, ◌≤◌, ◌+◌, ◌<◌, ◌∙◌, [], ℕ, Bool, true, false, true≢false, IsTrue, List, Option, Some, None, Result, Ok, Err, OnErr, OnOk, get_or, inl, inr, length, map, refl, slice_index_or, sym, ap, subst, ⊎_elim, arith}
+use Rattle.std.proofs.Common.{◌≡◌, ◌≢◌, ◌⊎◌, ◌≤◌, ◌+◌, ◌<◌, ◌∙◌, ℕ, Bool, true, false, true≢false, IsTrue, List, Option, Some, None, Result, Ok, Err, OnErr, OnOk, inl, inr, length, map, refl, slice_index_or, sym, ap, subst, ⊎_elim, arith}
 use Rattle.std.proofs.lemmas.List.{get_or-map}
 use Rattle.std.proofs.lemmas.Option.{none-some}
 use Rattle.std.specs.FinMap.{get, insert}
@@ -21,9 +21,9 @@ use Rattle.fz_machine.specs.declared.machine.By.{By}
 use Rattle.fz_machine.specs.Going.{AreRenewed, AreTables, AsksNone, Changes, HasRoomOffIn, HaveRoom, IsInOrder, IsTable, Lacks}
 use Rattle.fz_machine.specs.Machines.{Keeps, Machine, Notes, is_noted, of_links, tabled_for}
 use Rattle.fz_machine.specs.Phases.{settles_in, swept}
-use Rattle.fz_machine.specs.Regions.{Regions as Table, IsNoted, IsOfSweep, IsUntold, KeepsTable, attached, holders, index_of, no_regions, table_at, targets}
+use Rattle.fz_machine.specs.Regions.{Regions as Table, IsNoted, IsOfSweep, KeepsTable, attached, holders, index_of, no_regions, table_at, targets}
 use Rattle.fz_machine.specs.Walks.{Walk}
-use Rattle.fz_machine.proofs.Less.{IsLess, IsOfLink, added_more, less_same, linked_more, moved_more, registered_more, state_less}
+use Rattle.fz_machine.proofs.Less.{IsLess, IsOfLink, added_more, linked_more, moved_more, registered_more, state_less}
 use Rattle.fz_machine.proofs.Less.{tables_less as same_tables_less}
 use Rattle.fz_machine.proofs.Renewed.{still_untold}
 use Rattle.fz_machine.proofs.Tabled.{cases_sweep, index_within}

@@ -1,5 +1,5 @@
 -- What a sweep is about, noted again.
-use Rattle.std.proofs.Common.{◌≡◌, ◌≢◌, ◌⊎◌, ◌<◌, ◌∙◌, ◌∷◌, ◌++◌, [], ℕ, Bool, true, false, true≢false, cond, IsTrue, List, Option, Some, inl, inr, get_or, is_some, length, map, nat_eq, not, refl, set, sym, ap, subst, ⊎_elim, append_assoc, append-nil, arith}
+use Rattle.std.proofs.Common.{◌≡◌, ◌≢◌, ◌⊎◌, ◌∙◌, ◌∷◌, ◌++◌, [], ℕ, Bool, true, false, true≢false, cond, IsTrue, List, Some, inl, inr, get_or, is_some, length, map, nat_eq, not, refl, set, sym, ap, subst, ⊎_elim, append_assoc, append-nil, arith}
 use Rattle.std.proofs.lemmas.Bool.{eqb-true}
 use Rattle.std.proofs.lemmas.List.{get_or_default}
 use Rattle.std.proofs.lemmas.Option.{same_Some}

@@ -1,5 +1,5 @@
 -- What the phase behind a sweep lists, and what is noted again meanwhile.
-use Rattle.std.proofs.Common.{All, ◌≡◌, ◌≤◌, ◌+◌, ℕ, Bool, true, false, true≢false, cond, is_some, not, ◌&&◌, List, [], ◌∷◌, ◌++◌, filter, map, length, nat_eq, nat_le, Option, Some, None, Contains, IsTrue, inl, inr, refl, sym, ap, subst, ◌∙◌, append-nil, arith}
+use Rattle.std.proofs.Common.{All, ◌≡◌, ◌≤◌, ◌+◌, ℕ, Bool, true, false, true≢false, cond, is_some, not, ◌&&◌, List, [], ◌∷◌, ◌++◌, filter, map, length, nat_eq, nat_le, Option, Some, None, IsTrue, inl, inr, refl, sym, ap, subst, ◌∙◌, append-nil, arith}
 use Rattle.std.proofs.lemmas.List.{length-append, length-map, map-append}
 use Rattle.std.proofs.lemmas.List.Elements.{filter-append}
 use Rattle.std.proofs.lemmas.Map.Made.{is_some-lookup}

@@ -1,5 +1,5 @@
 -- Questions about regions come to an end.
-use Rattle.std.proofs.Common.{◌≡◌, ◌∙◌, ◌≤◌, ◌<◌, ◌+◌, ℕ, suc, List, Some, refl, ap, sym, subst, arith}
+use Rattle.std.proofs.Common.{◌≡◌, ◌∙◌, ◌≤◌, ◌<◌, ◌+◌, ℕ, suc, List, Some, ap, sym, subst, arith}
 use Rattle.fz_machine.specs.declared.phase.Moment.TheVariants.{First}
 use Rattle.fz_machine.specs.declared.phase.Phase.TheVariants.{Keys}
 use Rattle.fz_machine.specs.Going.{questions_in, questions_to_come}

@@ -1,12 +1,12 @@
 -- Steps, one after another.
-use Rattle.std.proofs.Common.{◌≡◌, ◌≤◌, ◌<◌, ◌+◌, ℕ, min, Bool, true, false, cond, List, [], ◌∷◌, ◌++◌, take, drop, length, slice_get, get_or, is_some, Option, Some, refl, sym, ap, ◌∙◌, nat_le, arith}
+use Rattle.std.proofs.Common.{◌≡◌, ◌≤◌, ◌<◌, ◌+◌, ℕ, min, Bool, true, false, cond, List, [], ◌∷◌, ◌++◌, take, drop, length, slice_get, get_or, is_some, refl, sym, ap, ◌∙◌, nat_le, arith}
 use Rattle.std.proofs.lemmas.List.{take_more, take_all, take-append-drop}
 use Rattle.std.proofs.lemmas.Bool.Decides.{nat_tests}
-use Rattle.std.proofs.lemmas.Option.{none-some, same_Some}
+use Rattle.std.proofs.lemmas.Option.{same_Some}
 use Rattle.fz_machine.specs.declared.item.Item.{Item}
 use Rattle.fz_machine.specs.declared.phase.Phase.{Phase}
 use Rattle.fz_machine.specs.Phases.{asks}
-use Rattle.fz_machine.specs.Steps.{Going, step, stepped, steps, skip, skipped, GoesOn, Asks, Turns, Ends}
+use Rattle.fz_machine.specs.Steps.{Going, step, stepped, steps, skip, skipped}
 
 module _ (phase : Phase) where
   pub steps-append : (xs ys : List Bool) (g : Going) → steps phase (xs ++ ys) g ≡ steps phase ys (steps phase xs g)

@@ -1,20 +1,19 @@
 -- From one phase to the next, with the tables of regions.
-use Rattle.std.proofs.Common.{All, ◌≡◌, ◌≢◌, ◌⊎◌, ℕ, zero, suc, ◌+◌, ◌<◌, ◌≤◌, ◌++◌, Bool, true, false, true≢false, cond, is_some, List, [], ◌∷◌, map, drop, length, slice_get, Option, Some, None, IsTrue, inl, inr, refl, sym, ap, subst, ◌∙◌, ⊎_elim, append-nil, arith}
+use Rattle.std.proofs.Common.{All, ◌≡◌, ◌≢◌, ◌⊎◌, ℕ, suc, ◌+◌, ◌<◌, ◌≤◌, ◌++◌, Bool, true, false, true≢false, cond, is_some, List, [], ◌∷◌, map, drop, length, slice_get, Option, Some, None, IsTrue, inl, inr, refl, sym, ap, subst, ◌∙◌, ⊎_elim, append-nil, arith}
 use Rattle.std.proofs.lemmas.List.{drop_all, length-append, length-map}
 use Rattle.std.proofs.lemmas.Option.{none-some, same_Some}
 use Rattle.std.specs.Map.{keys_of}
 use Rattle.fz_finalizers.specs.States.{State, View}
 use Rattle.fz_machine.specs.declared.item.Item.{Item}
-use Rattle.fz_machine.specs.declared.phase.Moment.{Moment}
 use Rattle.fz_machine.specs.declared.phase.Moment.TheVariants.{First, Led, Picked, Last}
 use Rattle.fz_machine.specs.declared.phase.Phase.{Phase}
 use Rattle.fz_machine.specs.declared.phase.Phase.TheVariants.{Keys, KeysAgain, Holders, Values, Regions, ShortCleanups, ShortTargets, ShortWords, ShortKeys, ShortKeyWords, Objects, Children, Again, Picks, LateAgain, LatePicks, LongTargets, LongWords, LongKeys, LongKeyWords, ShortHolders, LongHolders, ShortKeyHolders, LongKeyHolders, LongCleanups}
 use Rattle.fz_machine.specs.declared.phase.Sweep.{Sweep}
 use Rattle.fz_machine.specs.declared.phase.Sweep.TheVariants as sweeps
-use Rattle.fz_machine.specs.Going.{AreNoMore, AreReady, AreTables, Changes, HasAsk, HasRoom, HasRoomOff, HaveRoom, IsInOrder, IsListed, IsTable, emptied, follows_settling, going, left_in, questions_by, questions_in, questions_of, swept_by, told_for, told_in}
+use Rattle.fz_machine.specs.Going.{AreNoMore, AreReady, AreTables, Changes, HasAsk, HasRoomOff, HaveRoom, IsListed, IsTable, emptied, follows_settling, going, left_in, questions_by, questions_in, questions_of, swept_by, told_for, told_in}
 use Rattle.fz_machine.proofs.Among.{Each, each_from}
-use Rattle.fz_machine.specs.Phases.{behind, IsOther, Lists, ask_of, asks, is_known, aside_in, given, is_swept, next_phase, off_in, settles, swept}
-use Rattle.fz_machine.specs.Regions.{Regions as Table, AreNoted, IsNoted, IsOfSweep, IsRenoted, IsTold, IsUntold, begun, index_of, table_at}
+use Rattle.fz_machine.specs.Phases.{behind, Lists, ask_of, asks, is_known, given, is_swept, next_phase, settles, swept}
+use Rattle.fz_machine.specs.Regions.{Regions as Table, AreNoted, IsRenoted, IsTold, IsUntold, begun, index_of, table_at}
 use Rattle.fz_machine.specs.Steps.{Begins, Going, GoesOn, Sweeps, skip, skipped, step, stepped, steps}
 use Rattle.fz_machine.specs.Walks.{Walk}
 use Rattle.fz_machine.proofs.Less.{IsLess}

@@ -5,7 +5,7 @@ use Rattle.fz_finalizers.specs.declared.refused.Refused.{Refused}
 use Rattle.fz_finalizers.specs.Follows.{Event, Follows}
 use Rattle.fz_finalizers.specs.States.{State, waiting}
 use Rattle.fz_machine.specs.declared.phase.Phase.{Phase}
-use Rattle.fz_machine.specs.Going.{ephemerons_in, HasRoom, HaveRoom, IsInOrder}
+use Rattle.fz_machine.specs.Going.{ephemerons_in, HasRoom, IsInOrder}
 use Rattle.fz_machine.specs.Machines.{IsWork}
 use Rattle.fz_machine.specs.Phases.{settles_in}
 use Rattle.fz_machine.specs.Regions.{Regions as Table}

@@ -14,7 +14,7 @@ use Rattle.fz_machine.specs.declared.phase.Sweep.TheVariants as sweeps
 use Rattle.fz_machine.specs.declared.item.Item.{Item}
 use Rattle.fz_machine.specs.Off.{count_off}
 use Rattle.fz_machine.specs.Phases.{asks, settles, settles_in, swept}
-use Rattle.fz_machine.specs.Regions.{Regions as Table, AreNoted, IsTold, IsUntold, KeepsTable, index_of, most_of, table_at}
+use Rattle.fz_machine.specs.Regions.{Regions as Table, AreNoted, IsTold, IsUntold, index_of, most_of, table_at}
 use Rattle.fz_machine.specs.Steps.{Going}
 use Rattle.fz_machine.specs.Walks.{Walk}
 
@@ -84,7 +84,7 @@ AreFewer [] (n ∷ ns) = ⊥
 AreFewer (o ∷ os) [] = ⊥
 AreFewer (o ∷ os) (n ∷ ns) = (n ≤ o) × AreFewer os ns
 
--- how many questions so many regions take
+-- the number of questions about this number of regions
 abbrev pub questions_of : ℕ → ℕ
 questions_of n = (n + 63) / 64
 

@@ -19,9 +19,8 @@ pub data Hears (begun : Machine) : Machine → ℕ → Type 0 where
   Meanwhile : {m new : Machine} {n : ℕ} → IsWorked m new → Hears begun m n → Hears begun new n
   Told : {m new : Machine} {n : ℕ} (key : ℕ) → IsTold key m new → Hears begun m n → Hears begun new n
 
--- how often ephemerons may be asked about, if there are so many. One that lives is asked about three times, and then no more: for its key, its holder and its value. For each value
--- that is marked, those that still wait are asked about in at most two more rounds: one about those that were told, and one about all. One that waits throughout is asked about
--- at most 14 times: twice at each of the four times at which the marks are made whole, twice behind the first of them, and four times behind the last
+-- the most answers about this number of ephemerons. One that lives is asked about three times: for its key, its holder and its value. For each value that is marked, those that still
+-- wait are asked about in at most two more rounds: one about those that were told, and one about all. One that waits throughout is asked about at most 14 times: twice at each of the four times at which the marks are made whole, twice behind the first of them, and four times behind the last
 abbrev pub most_rows : ℕ → ℕ
 most_rows n = 11 * n + n * (2 * n + 1)
 

@@ -1,6 +1,6 @@
 -- The regions of objects and words: where those of items may lie, and what words say about them.
 -- code: fz_machine/src/regions.rt
-use Rattle.std.specs.Prelude.{◌≡◌, ℕ, ◌-◌, ◌*◌, ◌/◌, ◌%◌, ◌≤◌, Bool, true, false, not, if◌then◌else◌, List, [], length, Some, slice_index_or, nat_eq, is_some, IsTrue, refl}
+use Rattle.std.specs.Prelude.{◌≡◌, ℕ, ◌-◌, ◌*◌, ◌/◌, ◌%◌, ◌≤◌, Bool, false, not, if◌then◌else◌, List, [], length, Some, slice_index_or, nat_eq, is_some, IsTrue, refl}
 use Rattle.std.specs.Coded.{Coded, code_by, coded×, coded_ℕ, coded_list, coded_bool}
 use Rattle.std.specs.FinMap.{get, len, contains_key}
 use Rattle.std.specs.List.{IsDistinct}

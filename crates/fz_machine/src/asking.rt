@@ -1,14 +1,14 @@
 //! The steps of a pass.
 
-ghost use Rattle.std.specs.Prelude.{◌≡◌, ◌≤◌, ◌<◌, ◌∷◌, [], drop, take, length, is_some, IsTrue};
+ghost use Rattle.std.specs.Prelude.{◌≡◌, ◌≤◌, ◌<◌, ◌∷◌, [], Bool, drop, take, length, is_some, IsTrue, Some};
 ghost use Rattle.fz_machine.specs.Asks.{bits_of};
 ghost use Rattle.fz_machine.specs.Off.{put_off};
 ghost use Rattle.fz_machine.specs.Phases.{after, asks, settles};
-ghost use Rattle.fz_machine.specs.Sifts.{keeps_unmarked};
+ghost use Rattle.fz_machine.specs.Sifts.{AreAll, idle_answer, keeps_all, keeps_known, keeps_marked, keeps_unmarked};
 ghost use Rattle.fz_machine.specs.Steps.{step, steps, skip};
 ghost use Rattle.fz_machine.specs.Going.{going, HasRoomOff, IsSameRoom};
 
-use crate::answers::has_bit;
+use crate::answers::{has_bit, word_of};
 use crate::item::Item;
 use crate::phase::Phase;
 use crate::walk::Walk;
@@ -67,7 +67,6 @@ fn put_off(walk: &mut Walk, phase: Phase, item: Item, yes: bool)
 }
 
 /// Processes the answer about the first remaining item.
-// Inlined with what it calls: where a loop names its phase, each step does what this phase does, and tests nothing.
 #[inline(always)]
 fn step(finalizers: &mut Finalizers, walk: &mut Walk, phase: Phase, item: Item, yes: bool)
     requires first { walk.old.left ≡ item ∷ drop 1 walk.old.left }
@@ -97,7 +96,6 @@ pub(crate) fn hear(finalizers: &mut Finalizers, walk: &mut Walk, phase: Phase, a
 }
 
 /// Processes the answers in a word about the first remaining items, as many as this, one after another.
-#[inline(always)]
 fn hear_each(finalizers: &mut Finalizers, walk: &mut Walk, phase: Phase, bits: u64, count: usize)
     requires few { count ≤ 64 }
     requires room { HasRoomOff (settles phase) walk.old }
@@ -126,7 +124,51 @@ fn keeps_unmarked(phase: Phase) -> bool
     }
 }
 
+/// Whether a phase keeps the ephemerons whose answers are true, and puts off the others.
+fn keeps_marked(phase: Phase) -> bool
+    ensures { result ≡ keeps_marked phase }
+{
+    match phase {
+        Phase::Keys(_) | Phase::KeysAgain(_) | Phase::Holders(_) => true,
+        _ => false,
+    }
+}
+
+/// Whether a phase keeps all items.
+fn keeps_all(phase: Phase) -> bool
+    ensures { result ≡ keeps_all phase }
+{
+    match phase {
+        Phase::Children => true,
+        _ => false,
+    }
+}
+
+/// The answer with which a phase drops an item, and changes nothing else, if there is one.
+fn idle_answer(phase: Phase) -> Option<bool>
+    ensures { result ≡ idle_answer phase }
+{
+    match phase {
+        Phase::Values(_) => Some(false),
+        Phase::ShortCleanups | Phase::LongCleanups => Some(true),
+        Phase::ShortHolders | Phase::LongHolders => Some(true),
+        Phase::ShortKeyHolders | Phase::LongKeyHolders => Some(true),
+        _ => None,
+    }
+}
+
+/// Whether a phase drops all items with the answers in a word, and changes nothing else.
+fn is_idle(phase: Phase, bits: u64) -> bool
+    ensures { IsTrue result → (answer : Bool) × (idle_answer phase ≡ Some answer) × AreAll answer bits }
+{
+    match idle_answer(phase) {
+        Some(answer) => bits == word_of(answer),
+        None => false,
+    }
+}
+
 /// Processes the answers in a word about the first remaining items, as many as this.
+// Most phases only choose items, which takes no step for each of them.
 pub(crate) fn hear_bits(
     finalizers: &mut Finalizers,
     walk: &mut Walk,
@@ -144,21 +186,22 @@ pub(crate) fn hear_bits(
         walk.sift(!bits, count);
         return;
     }
-    // Each of these is a loop of its own.
-    match phase {
-        Phase::Keys(moment) => hear_each(finalizers, walk, Phase::Keys(moment), bits, count),
-        Phase::KeysAgain(moment) => {
-            hear_each(finalizers, walk, Phase::KeysAgain(moment), bits, count)
-        }
-        Phase::Holders(moment) => hear_each(finalizers, walk, Phase::Holders(moment), bits, count),
-        Phase::Values(moment) => hear_each(finalizers, walk, Phase::Values(moment), bits, count),
-        Phase::Children => hear_each(finalizers, walk, Phase::Children, bits, count),
-        _ => hear_each(finalizers, walk, phase, bits, count),
+    if keeps_marked(phase) {
+        walk.part(bits, count);
+        return;
     }
+    if keeps_all(phase) {
+        walk.sift(!0, count);
+        return;
+    }
+    if is_idle(phase, bits) {
+        walk.drop_first(count);
+        return;
+    }
+    hear_each(finalizers, walk, phase, bits, count);
 }
 
 /// Skips items about which nothing is asked, one after another.
-#[inline(always)]
 fn skip_each(finalizers: &mut Finalizers, walk: &mut Walk, phase: Phase)
     requires room { HasRoomOff (settles phase) walk.old }
     ensures skipped { going finalizers.new walk.new [] ≡ skip phase (going finalizers.old walk.old []) }
@@ -173,6 +216,16 @@ fn skip_each(finalizers: &mut Finalizers, walk: &mut Walk, phase: Phase)
     }
 }
 
+/// Whether a phase asks about each item that isn't known, and keeps those that are.
+fn keeps_known(phase: Phase) -> bool
+    ensures { result ≡ keeps_known phase }
+{
+    match phase {
+        Phase::ShortTargets | Phase::Objects | Phase::LongTargets => true,
+        _ => false,
+    }
+}
+
 /// Skips items about which nothing is asked.
 pub(crate) fn skip(finalizers: &mut Finalizers, walk: &mut Walk, phase: Phase)
     requires room { HasRoomOff (settles phase) walk.old }
@@ -180,11 +233,9 @@ pub(crate) fn skip(finalizers: &mut Finalizers, walk: &mut Walk, phase: Phase)
     ensures room { HasRoomOff (settles phase) walk.new }
     ensures same { IsSameRoom walk.old walk.new }
 {
-    // Each of these is a loop of its own.
-    match phase {
-        Phase::ShortTargets => skip_each(finalizers, walk, Phase::ShortTargets),
-        Phase::Objects => skip_each(finalizers, walk, Phase::Objects),
-        Phase::LongTargets => skip_each(finalizers, walk, Phase::LongTargets),
-        _ => skip_each(finalizers, walk, phase),
+    if keeps_known(phase) {
+        walk.keep_known();
+        return;
     }
+    skip_each(finalizers, walk, phase);
 }

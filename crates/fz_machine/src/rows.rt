@@ -1,10 +1,13 @@
 //! The ephemerons that are put off.
 
-ghost use Rattle.std.specs.Prelude.{◌≡◌, ◌≤◌, ◌<◌, ◌+◌, ◌++◌, ◌∷◌, [], filter, map, min, nat_eq, nat_lt, length, slice_get, vec_len, vec_capacity, true, None, IfSome, OnOk};
+ghost use Rattle.std.specs.Prelude.{◌≡◌, ◌≤◌, ◌<◌, ◌+◌, ◌++◌, ◌∷◌, [], filter, map, min, nat_eq, nat_lt, length, take, slice_get, vec_len, vec_capacity, true, None, IfSome, OnOk};
 ghost use Rattle.std.specs.List.Sorted.{IsNonDecreasingBy};
 ghost use Rattle.fz_machine.specs.declared.rows.Row.{Row};
+ghost use Rattle.fz_machine.specs.Asks.{bits_of};
 ghost use Rattle.fz_machine.specs.Off.{IsIndexed, TellsOff, all_off, count_off, fresh, key_of, looked_at, looking, looks_again, none_off, of_row, stuck_with, tell_row, untold};
+ghost use Rattle.fz_machine.specs.Sifts.{chosen};
 
+use crate::answers::append_chosen;
 use crate::item::Item;
 use crate::listing::put;
 use fz_model::Addr;
@@ -207,6 +210,18 @@ impl Rows {
         ensures room { self.old.room ≤ self.new.room }
     {
         let _ = self.stuck.push(item);
+    }
+
+    /// Puts off those of the ephemerons whose bits are set. There is room for all of them.
+    pub(crate) fn put_off_those(&mut self, items: &[Item], bits: u64)
+        requires few { length items.now ≤ 64 }
+        requires room { length self.old.off.stuck + length items.now ≤ self.old.room }
+        ensures off { self.new.off ≡ record self.old.off { stuck = self.old.off.stuck ++ chosen (take (length items.now) (bits_of bits)) items.now } }
+        ensures room { self.old.room ≤ self.new.room }
+    {
+        if bits != 0 {
+            append_chosen(&mut self.stuck, items, bits);
+        }
     }
 
     /// Notes that a value may have been marked.

@@ -1,6 +1,9 @@
 //! The list that a phase processes, and the lists beside it.
 
 ghost use Rattle.std.specs.Prelude.{◌≡◌, ◌≤◌, ◌<◌, ◌+◌, ◌^◌, ◌++◌, ◌∷◌, [], if◌then◌else◌, min, drop, take, length, slice_get, vec_capacity, true, OnOk, OnErr};
+ghost use Rattle.std.specs.Int.{bit_not, w64};
+ghost use Rattle.std.specs.List.{prefix_len, take_while};
+ghost use Rattle.fz_machine.specs.declared.item.Item.{Item};
 ghost use Rattle.fz_machine.specs.Asks.{bits_of};
 ghost use Rattle.fz_machine.specs.Going.{KeepsBeside};
 ghost use Rattle.fz_machine.specs.Items.{AreInTurn, place_of};
@@ -186,9 +189,62 @@ impl Walk {
         ensures others { self.new ≡ record self.old { kept = self.new.kept; left = self.new.left } }
     {
         let few = count.min(self.items.len() - self.place);
+        if bits == !0 && self.kept == self.place {
+            self.kept += few;
+            self.place = self.kept;
+            return;
+        }
         let kept = choose(&mut self.items, self.kept, self.place, bits, few);
         self.kept = kept;
         self.place += few;
+    }
+
+    /// Moves past the first remaining items, as many as this, and keeps none of them.
+    pub(crate) fn drop_first(&mut self, count: usize)
+        ensures { self.new ≡ record self.old { left = drop count self.old.left } }
+    {
+        self.place += count.min(self.items.len() - self.place);
+    }
+
+    /// Moves past the first remaining items that are known, and keeps them.
+    pub(crate) fn keep_known(&mut self)
+        ensures kept { self.new.kept ≡ self.old.kept ++ take_while (λ (item : Item). item.known) self.old.left }
+        ensures left { self.new.left ≡ drop (prefix_len (λ (item : Item). item.known) self.old.left) self.old.left }
+        ensures others { self.new ≡ record self.old { kept = self.new.kept; left = self.new.left } }
+    {
+        while let Some(item) = self.first() {
+            if !item.known {
+                return;
+            }
+            self.pass_on(item, true);
+        }
+    }
+
+    /// Puts off those of the first remaining ephemerons, as many as this, whose bits are set. There is room for all that remain.
+    fn put_off_those(&mut self, bits: u64, count: usize)
+        requires few { count ≤ 64 }
+        requires room { length self.old.left + length self.old.off.stuck ≤ self.old.off_room }
+        ensures off { self.new.off ≡ record self.old.off { stuck = self.old.off.stuck ++ chosen (take count (bits_of bits)) self.old.left } }
+        ensures others { self.new ≡ record self.old { off = self.new.off; off_room = self.new.off_room } }
+        ensures room { self.old.off_room ≤ self.new.off_room }
+    {
+        let few = count.min(self.items.len() - self.place);
+        self.rows
+            .put_off_those(&self.items[self.place..self.place + few], bits);
+    }
+
+    /// Moves past the first remaining ephemerons, as many as this: keeps those whose bits are set, and puts off the others. There is room for all that remain.
+    pub(crate) fn part(&mut self, bits: u64, count: usize)
+        requires few { count ≤ 64 }
+        requires room { length self.old.left + length self.old.off.stuck ≤ self.old.off_room }
+        ensures kept { self.new.kept ≡ self.old.kept ++ chosen (take count (bits_of bits)) self.old.left }
+        ensures left { self.new.left ≡ drop count self.old.left }
+        ensures off { self.new.off ≡ record self.old.off { stuck = self.old.off.stuck ++ chosen (take count (bits_of (bit_not w64 bits))) self.old.left } }
+        ensures others { self.new ≡ record self.old { kept = self.new.kept; left = self.new.left; off = self.new.off; off_room = self.new.off_room } }
+        ensures room { self.old.off_room ≤ self.new.off_room }
+    {
+        self.put_off_those(!bits, count);
+        self.sift(bits, count);
     }
 
     /// Puts an ephemeron off. There is room for it.

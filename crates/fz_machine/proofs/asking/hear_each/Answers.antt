@@ -1,4 +1,4 @@
-use Rattle.std.proofs.Common.{◌≡◌, [], ◌∙◌, false, take, sym, ap, arith}
+use Rattle.std.proofs.Common.{[], ◌∙◌, false, take, sym, ap, arith}
 use Rattle.std.proofs.lemmas.List.{take_all}
 use Rattle.fz_machine.specs.Asks.{bits_of}
 use Rattle.fz_machine.specs.Going.{going}

@@ -1,10 +1,9 @@
-use Rattle.std.proofs.Common.{◌≡◌, ◌∙◌, [], ℕ, List, Some, None, is_some, true, false, sym, ap, subst, refl}
+use Rattle.std.proofs.Common.{◌≡◌, ◌∙◌, [], ℕ, List, Some, is_some, sym, ap, subst}
 use Rattle.fz_machine.specs.declared.phase.Phase.{Phase}
 use Rattle.fz_machine.specs.declared.phase.Sweep.{Sweep}
 use Rattle.std.specs.Option.{IfSome}
 use Rattle.fz_machine.specs.Going.{AreReady, AreTables, HaveRoom, HasRoomOff, follows_settling, going, told_for, told_in}
-use Rattle.fz_machine.specs.Phases.{Lists, settles, swept}
-use Rattle.fz_machine.specs.Regions.{table_at}
+use Rattle.fz_machine.specs.Phases.{settles, swept}
 use Rattle.fz_machine.specs.Steps.{Begins}
 use Rattle.fz_machine.proofs.Turned.{no_sweep, nothing_told, plain_tables, plain_told, same_more, swept_before, swept_begins, swept_more, swept_room, swept_room_off, swept_tables, swept_told}
 use Rattle.fz_machine.proofs.going_on.begin_by.Goals as goal

@@ -1,8 +1,7 @@
-use Rattle.std.proofs.Common.{◌≡◌, ◌∙◌, ◌≤◌, ℕ, List, [], Some, None, Option, true≢false, false, is_some, slice_get, ap, sym, subst, refl, arith}
-use Rattle.fz_finalizers.specs.States.{State}
+use Rattle.std.proofs.Common.{◌≡◌, ◌∙◌, ℕ, List, Some, None, true≢false, false, is_some, slice_get, ap, sym, subst, arith}
 use Rattle.fz_machine.specs.declared.phase.Phase.{Phase}
 use Rattle.fz_machine.specs.declared.phase.Phase.TheVariants.{LongCleanups}
-use Rattle.fz_machine.specs.Going.{HasRoomOff, HaveRoom, going, questions_by, told_for, told_in}
+use Rattle.fz_machine.specs.Going.{HasRoomOff, HaveRoom, going, told_in}
 use Rattle.fz_machine.specs.Off.{looks_again}
 use Rattle.std.proofs.lemmas.Option.{none-some, same_Some}
 use Rattle.fz_machine.specs.Phases.{next_phase, settles, swept}

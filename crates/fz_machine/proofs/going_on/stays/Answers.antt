@@ -1,14 +1,13 @@
-use Rattle.std.proofs.Common.{◌≡◌, ◌∙◌, ◌∷◌, [], ℕ, List, Option, Some, None, drop, is_some, slice_get, true, false, sym, ap, subst, refl}
+use Rattle.std.proofs.Common.{◌≡◌, ◌∙◌, [], ℕ, List, Some, is_some, slice_get, sym, ap, subst}
 use Rattle.fz_finalizers.specs.States.{State}
-use Rattle.fz_machine.specs.declared.item.Item.{Item}
-use Rattle.fz_machine.specs.Going.{HasAsk, going, left_in, told_in}
+use Rattle.fz_machine.specs.Going.{going, left_in, told_in}
 use Rattle.fz_machine.specs.Phases.{settles}
 use Rattle.fz_machine.specs.Steps.{Going, skip}
 use Rattle.fz_machine.proofs.Ending.{asks_on, no_left}
 use Rattle.fz_machine.proofs.Less.{less_same, skip_less}
 use Rattle.fz_machine.specs.Regions.{IsOfSweep}
 use Rattle.fz_machine.proofs.Rooms.{rooms_as, rooms_of, skip_rooms}
-use Rattle.fz_machine.proofs.Turned.{has_first, has_region, no_region_behind, no_regions_left, skip_known, skip_told, sweeps_on, tables_less}
+use Rattle.fz_machine.proofs.Turned.{has_first, no_region_behind, no_regions_left, skip_known, skip_told, sweeps_on, tables_less}
 use Rattle.fz_machine.proofs.going_on.stays.Goals as goal
 
 pub returns-then-has_left-clause-asks : goal.returns-then-has_left-clause-asks

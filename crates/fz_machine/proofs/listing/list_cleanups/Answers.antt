@@ -1,13 +1,13 @@
-use Rattle.std.proofs.Common.{◌≡◌, ◌∙◌, ◌++◌, ◌∷◌, ◌&&◌, ◌⊎◌, [], ℕ, Bool, cond, IsTrue, IsFalse, true≢false, nat_le, not, List, length, sym, ap, refl, subst, ⊎_elim, ◌<◌, ◌^◌, arith}
+use Rattle.std.proofs.Common.{◌≡◌, ◌∙◌, ◌++◌, ◌∷◌, [], ℕ, Bool, cond, IsTrue, IsFalse, true≢false, length, sym, ap, subst, ⊎_elim, arith}
 use Rattle.fz_pass.proofs.Walking.{one_on, all_of}
 use Rattle.fz_finalizers.specs.declared.cleanups.Attached.{Attached}
 use Rattle.fz_finalizers.specs.Cleanups.{is_when}
 use Rattle.fz_machine.specs.declared.item.Item.{Item}
 use Rattle.fz_machine.specs.Items.{is_listed, of_cleanup}
-use Rattle.fz_machine.specs.Regions.{IsLooked, Regions, attached, is_marked, is_unmarked}
+use Rattle.fz_machine.specs.Regions.{IsLooked, Regions, attached, is_unmarked}
 use Rattle.fz_machine.proofs.Among.{OneOf}
 use Rattle.fz_machine.proofs.Ordered.{AreWords, words_more}
-use Rattle.fz_machine.proofs.Renoted.{AreLooked, IsCleanedOf, filled_if, fewer_than, items_more, no_cleanups, cleanups_entered, one_looked, one_passed, renoted_all}
+use Rattle.fz_machine.proofs.Renoted.{IsCleanedOf, filled_if, fewer_than, items_more, no_cleanups, cleanups_entered, one_looked, one_passed, renoted_all}
 use Rattle.fz_machine.proofs.listing.list_cleanups.Goals as goal
 
 pub returns-then-not-lists-clause-listed : goal.returns-then-not-lists-clause-listed

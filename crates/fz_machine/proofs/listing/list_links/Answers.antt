@@ -1,4 +1,4 @@
-use Rattle.std.proofs.Common.{◌≡◌, ◌∙◌, ◌++◌, ◌∷◌, [], ℕ, Bool, cond, not, List, length, sym, ap, refl, subst, arith}
+use Rattle.std.proofs.Common.{◌≡◌, ◌∙◌, ◌++◌, ◌∷◌, [], ℕ, Bool, cond, not, length, sym, ap, subst, arith}
 use Rattle.fz_pass.proofs.Walking.{one_on, all_of}
 use Rattle.fz_machine.specs.declared.item.Item.{Item}
 use Rattle.fz_finalizers.specs.States.{links_of}

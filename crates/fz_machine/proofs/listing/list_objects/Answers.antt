@@ -1,7 +1,6 @@
-use Rattle.std.proofs.Common.{◌≡◌, ◌∙◌, ◌++◌, ◌∷◌, ◌&&◌, [], ℕ, Bool, cond, nat_le, not, List, length, sym, ap, refl, subst, arith}
+use Rattle.std.proofs.Common.{◌≡◌, ◌∙◌, ◌++◌, ◌∷◌, ◌&&◌, [], ℕ, Bool, cond, nat_le, not, length, sym, ap, subst, arith}
 use Rattle.fz_pass.proofs.Walking.{one_on, all_of}
 use Rattle.fz_table.specs.declared.stored.Stored.{Stored}
-use Rattle.fz_table.specs.Tabled.{plain}
 use Rattle.fz_machine.specs.declared.item.Item.{Item}
 use Rattle.fz_machine.specs.declared.phase.Sweep.TheVariants as sweeps
 use Rattle.fz_machine.specs.Items.{of_stored}

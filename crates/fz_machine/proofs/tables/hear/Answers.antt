@@ -1,9 +1,8 @@
-use Rattle.std.proofs.Common.{◌≡◌, ◌∙◌, ◌++◌, ℕ, List, Some, drop, min, take, zip, ap, sym, subst}
+use Rattle.std.proofs.Common.{◌∙◌, ◌++◌, Some, sym, subst}
 use Rattle.std.specs.Map.{keys_of}
 use Rattle.fz_machine.specs.declared.phase.Phase.{Phase}
-use Rattle.fz_machine.specs.declared.phase.Phase.TheVariants.{Regions}
 use Rattle.fz_machine.specs.Going.{AreTables}
-use Rattle.fz_machine.specs.Regions.{Regions as Table, table_at}
+use Rattle.fz_machine.specs.Regions.{table_at}
 use Rattle.fz_machine.proofs.Asked.{heard_tables, still_whole, untold_still}
 use Rattle.fz_machine.proofs.tables.hear.Goals as goal
 

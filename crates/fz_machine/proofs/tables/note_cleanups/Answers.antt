@@ -1,4 +1,4 @@
-use Rattle.std.proofs.Common.{◌≡◌, ◌∙◌, ℕ, length, sym, ap, subst, arith}
+use Rattle.std.proofs.Common.{◌∙◌, length, sym, ap, subst, arith}
 use Rattle.std.proofs.lemmas.Bool.{both_ways}
 use Rattle.fz_machine.specs.Regions.{IsNoted}
 use Rattle.fz_machine.proofs.Renewed.{EachNoted, IsCleanupOf, all_of, cleanups_noted, one_more, rest_of, still_untold}

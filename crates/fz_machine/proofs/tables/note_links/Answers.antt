@@ -1,6 +1,6 @@
 use Rattle.std.proofs.Common.{◌≡◌, ◌∙◌, ℕ, length, sym, ap, subst, arith}
 use Rattle.fz_machine.specs.Items.{link_number}
-use Rattle.fz_machine.specs.Regions.{IsNoted, IsUntold}
+use Rattle.fz_machine.specs.Regions.{IsNoted}
 use Rattle.fz_machine.proofs.Renewed.{EachNoted, IsLinkOf, all_of, links_noted, one_more, rest_of, still_untold}
 use Rattle.fz_machine.proofs.tables.note_links.Goals as goal
 use Rattle.fz_machine.proofs.tables.note_links.Goals.{then-words, else-words}

@@ -1,8 +1,5 @@
-use Rattle.std.proofs.Common.{◌≡◌, ◌∙◌, ◌⊎◌, List, get_or, inl, inr, refl, set, sym, ap, subst, ⊎_elim}
-use Rattle.fz_machine.specs.declared.phase.Sweep.{Sweep}
-use Rattle.fz_machine.specs.declared.phase.Sweep.TheVariants as sweeps
-use Rattle.fz_machine.specs.Going.{AreRenewed, IsRenewed}
-use Rattle.fz_machine.specs.Regions.{Regions, index_of, table_at}
+use Rattle.std.proofs.Common.{◌∙◌, inl, inr, refl, set, sym, subst, ⊎_elim}
+use Rattle.fz_machine.specs.Going.{AreRenewed}
 use Rattle.fz_machine.proofs.Renewed.{set_renewed, within_is}
 use Rattle.fz_machine.proofs.tables.renew.Goals as goal
 use Rattle.fz_machine.proofs.tables.renew.Goals.{then-is_by, else-is_by}

@@ -1,4 +1,4 @@
-use Rattle.std.proofs.Common.{◌≡◌, ◌∙◌, ◌++◌, [], ℕ, List, drop, take, length, Option, Some, None, is_some, ap, sym, subst, refl, arith}
+use Rattle.std.proofs.Common.{◌≡◌, ◌∙◌, ◌++◌, List, drop, take, length, Option, Some, None, is_some, ap, sym, subst, refl, arith}
 use Rattle.std.proofs.lemmas.Option.{none-some}
 use Rattle.fz_machine.specs.Going.{AreAlike, AreTables, HaveRoom}
 use Rattle.fz_machine.specs.Machines.{Machine}

@@ -1,16 +1,15 @@
-use Rattle.std.proofs.Common.{All, min, ◌≡◌, ◌∙◌, ◌++◌, ◌<◌, ◌≤◌, ◌-◌, [], ℕ, List, drop, take, length, slice_get, is_some, Option, Some, None, IsTrue, false, inl, inr, ap, sym, subst, refl, arith}
+use Rattle.std.proofs.Common.{All, min, ◌≡◌, ◌∙◌, ◌++◌, ◌<◌, ◌-◌, List, drop, take, length, Option, Some, inl, inr, ap, sym, subst, refl, arith}
 use Rattle.std.specs.Option.{IfSome}
 use Rattle.fz_machine.specs.declared.item.Item.{Item}
 use Rattle.fz_machine.specs.declared.phase.Phase.{Phase}
 use Rattle.fz_machine.specs.declared.phase.Phase.TheVariants.{Regions}
 use Rattle.fz_machine.specs.declared.phase.Sweep.{Sweep}
-use Rattle.fz_machine.specs.declared.question.Question.{Question}
 use Rattle.fz_machine.specs.Going.{AreAlike, AreTables, AsksNone, Changes, HasAsk, IsInOrder, Lacks, left_in, told_in}
-use Rattle.fz_machine.specs.Machines.{AsksRegions, Machine, Tells}
+use Rattle.fz_machine.specs.Machines.{AsksRegions}
 use Rattle.fz_machine.specs.Regions.{Regions as Table, place_in, table_at}
 use Rattle.fz_machine.specs.Steps.{IsQuestion}
-use Rattle.fz_machine.proofs.Asked.{asked_alike, asked_tables, asks_items, asks_regions, item_asked, no_asks, no_asks_at, no_lacks, region_left, shown, went, went_on, whole_once, whole_twice}
-use Rattle.fz_machine.proofs.Turned.{is_sweep, no_sweep}
+use Rattle.fz_machine.proofs.Asked.{asked_alike, asked_tables, asks_items, asks_regions, no_asks, no_lacks, region_left, shown, went, went_on, whole_once, whole_twice}
+use Rattle.fz_machine.proofs.Turned.{no_sweep}
 use Rattle.fz_machine.proofs.machine.Machine.ask.Goals as goal
 
 pub returns-in_default-clause-goes : goal.returns-in_default-clause-goes

@@ -1,11 +1,7 @@
-use Rattle.std.proofs.Common.{◌≡◌, ◌∙◌, [], length, Some, ap, sym, subst, refl}
+use Rattle.std.proofs.Common.{◌∙◌, length, ap, refl}
 use Rattle.fz_finalizers.specs.Follows.{next_pass}
 use Rattle.fz_finalizers.specs.States.{State}
-use Rattle.fz_machine.specs.declared.phase.Moment.TheVariants.{First}
-use Rattle.fz_machine.specs.declared.phase.Phase.TheVariants.{Keys}
-use Rattle.fz_machine.specs.Going.{going}
-use Rattle.fz_machine.specs.Machines.{Machine, at_begin}
-use Rattle.fz_machine.specs.Steps.{Begins, Going}
+use Rattle.fz_machine.specs.Machines.{Machine}
 use Rattle.fz_machine.specs.Walks.{Walk}
 use Rattle.fz_machine.proofs.machine.Machine.begin_from.Goals as goal
 

@@ -5,7 +5,7 @@ use Rattle.fz_machine.specs.declared.phase.Sweep.{Sweep}
 use Rattle.fz_machine.specs.Causes.{first_of}
 use Rattle.fz_machine.specs.Going.{AreTables}
 use Rattle.fz_machine.specs.Machines.{Machine, of_links}
-use Rattle.fz_machine.specs.Regions.{Regions as Table, KeepsTable, holders, table_at, targets}
+use Rattle.fz_machine.specs.Regions.{Regions as Table, KeepsTable, table_at, targets}
 use Rattle.fz_machine.proofs.Remaining.{IsThere, IsWell, anew, completes, idle_tables, keeps_each, keeps_more, linked_comes, linked_tables, machines_note, noted_tables, sizes, there_still, unopened}
 use Rattle.fz_machine.proofs.machine.Machine.link.Goals as goal
 

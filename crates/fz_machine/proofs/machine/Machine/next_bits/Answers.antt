@@ -1,4 +1,4 @@
-use Rattle.std.proofs.Common.{◌≡◌, ◌∙◌, min, take, ap, sym, subst, refl, arith}
+use Rattle.std.proofs.Common.{◌∙◌, min, take, ap, sym, subst, refl, arith}
 use Rattle.fz_machine.specs.Asks.{bits_of}
 use Rattle.fz_machine.specs.Going.{asked_in, left_in, told_in}
 use Rattle.fz_machine.specs.Machines.{Answers, GoesTo, Machine, next_of}

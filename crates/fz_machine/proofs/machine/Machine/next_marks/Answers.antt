@@ -1,8 +1,7 @@
-use Rattle.std.proofs.Common.{◌≡◌, ◌∙◌, ◌++◌, ◌≤◌, ◌<◌, [], ℕ, List, drop, length, min, take, zip, Option, Some, ap, sym, subst, refl, arith}
+use Rattle.std.proofs.Common.{◌≡◌, ◌∙◌, ◌++◌, ◌≤◌, List, drop, length, min, take, zip, Option, Some, ap, sym, subst, refl, arith}
 use Rattle.fz_machine.specs.declared.phase.Phase.{Phase}
-use Rattle.fz_machine.specs.declared.question.Question.{Question}
 use Rattle.fz_machine.specs.Going.{AreAlike, AreTables, AsksNone, IsInOrder, Lacks, asked_in, going, left_in, questions_by, told_in}
-use Rattle.fz_machine.specs.Machines.{AsksRegions, GoesTo, Machine, PassesOver, Words, next_of, questions_left}
+use Rattle.fz_machine.specs.Machines.{GoesTo, Machine, Words, next_of, questions_left}
 use Rattle.fz_machine.specs.Regions.{Regions as Table}
 use Rattle.fz_machine.proofs.Asked.{after_heard, alike_complete, alike_lacks, alike_lengths, are_complete, heard_fewer, heard_no_more, rewritten, words_on}
 use Rattle.fz_machine.proofs.Turned.{lengths}

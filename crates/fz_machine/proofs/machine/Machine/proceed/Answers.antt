@@ -1,8 +1,6 @@
-use Rattle.std.proofs.Common.{◌≡◌, ◌∙◌, ◌≤◌, [], ℕ, List, length, min, take, Option, Some, ap, sym, subst, refl, arith}
-use Rattle.fz_machine.specs.declared.phase.Phase.{Phase}
-use Rattle.fz_machine.specs.Going.{HasRoomOff, IsInOrder, asked_in, going, left_in, told_in}
+use Rattle.std.proofs.Common.{take, subst, refl, arith}
+use Rattle.fz_machine.specs.Going.{asked_in, left_in, told_in}
 use Rattle.fz_machine.specs.Machines.{Answers, GoesTo, Machine, next_of}
-use Rattle.fz_machine.specs.Steps.{Going}
 use Rattle.fz_machine.proofs.Asked.{after_heard, answered_in_order, answered_on}
 use Rattle.fz_machine.proofs.Stepping.{heard}
 use Rattle.fz_machine.proofs.machine.Machine.proceed.Goals as goal

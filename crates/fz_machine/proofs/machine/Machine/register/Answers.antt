@@ -1,4 +1,4 @@
-use Rattle.std.proofs.Common.{◌≡◌, ◌∙◌, [], IsTrue, List, None, ap, false, slice_index_or, subst, sym}
+use Rattle.std.proofs.Common.{◌∙◌, [], IsTrue, List, None, ap, false, slice_index_or, subst, sym}
 use Rattle.std.proofs.lemmas.List.{with_items_is}
 use Rattle.std.specs.FinMap.{contains_key}
 use Rattle.fz_machine.specs.declared.phase.Sweep.TheVariants.{Objects}

@@ -1,4 +1,4 @@
-use Rattle.std.proofs.Common.{None, false}
+use Rattle.std.proofs.Common.{false}
 use Rattle.std.proofs.lemmas.Option.{none-some}
 use Rattle.fz_machine.specs.Phases.{swept}
 use Rattle.fz_machine.proofs.Asked.{opened_tables}

@@ -1,4 +1,4 @@
-use Rattle.std.proofs.Common.{◌≡◌, ◌∙◌, cond, ap, sym}
+use Rattle.std.proofs.Common.{◌∙◌, cond, ap, sym}
 use Rattle.fz_machine.proofs.Gathered.{subject_is}
 use Rattle.fz_machine.proofs.phase.Phase.subject.Goals as goal
 

@@ -1,8 +1,7 @@
-use Rattle.std.proofs.Common.{All, take, ℕ, subst, ◌≡◌, ◌∙◌, ◌<◌, ◌+◌, length, sym, ap, arith}
+use Rattle.std.proofs.Common.{All, take, subst, ◌≡◌, ◌∙◌, ◌<◌, ◌+◌, length, sym, arith}
 use Rattle.std.proofs.lemmas.List.{length-set}
-use Rattle.std.specs.Map.{keys_of}
 use Rattle.fz_machine.specs.Regions.{Regions, place_in}
-use Rattle.fz_machine.proofs.Noting.{each_begins, key_left, length_left, one_written}
+use Rattle.fz_machine.proofs.Noting.{each_begins, key_left, one_written}
 use Rattle.fz_machine.proofs.regions.Regions.ask.Goals as goal
 
 pub loop-count-preserved : goal.loop-count-preserved

@@ -1,4 +1,3 @@
-use Rattle.std.proofs.Common.{◌≡◌, ◌∙◌}
 use Rattle.fz_machine.proofs.Noting.{begun_all}
 use Rattle.fz_machine.proofs.regions.Regions.begin.Goals as goal
 

@@ -1,5 +1,4 @@
-use Rattle.std.proofs.Common.{◌≡◌, ◌∙◌, ◌-◌, ◌≤◌, ℕ, Some, None, cond, is_some, length, ap, sym, arith}
-use Rattle.fz_machine.specs.declared.regions.Noted.{Noted}
+use Rattle.std.proofs.Common.{◌≡◌, ◌∙◌, ◌-◌, Some, None, cond, is_some, length, ap, arith}
 use Rattle.fz_machine.proofs.Noting.{entry_at, gone_noted, one_gone, own_found, still_regions}
 use Rattle.fz_machine.proofs.regions.Regions.end.Goals as goal
 

@@ -1,8 +1,8 @@
-use Rattle.std.proofs.Common.{◌≡◌, ◌∙◌, ◌+◌, ◌-◌, ◌<◌, ◌≤◌, ℕ, length, map, take, List, ap, sym, subst, refl, arith}
+use Rattle.std.proofs.Common.{◌∙◌, ap, refl, arith}
 use Rattle.std.specs.Map.{keys_of}
 use Rattle.indexmap.specs.IndexMap.{set_value_at}
 use Rattle.fz_machine.specs.declared.regions.Noted.{Noted}
-use Rattle.fz_machine.specs.Regions.{Regions, placed, worded}
+use Rattle.fz_machine.specs.Regions.{Regions}
 use Rattle.fz_machine.proofs.Noting.{keys_set, length_by, placed_by, regions_by_keys, viewed, viewed_by, worded_set}
 use Rattle.fz_machine.proofs.regions.Regions.forget.Goals as goal
 

@@ -1,4 +1,4 @@
-use Rattle.std.proofs.Common.{◌≡◌, ◌∙◌, ◌⊎◌, ◌<◌, ◌-◌, ◌+◌, ◌++◌, ◌∷◌, [], inl, inr, ⊎_elim, ℕ, drop, get_or, length, take, zip, append-nil, ap, sym, arith}
+use Rattle.std.proofs.Common.{◌≡◌, ◌∙◌, ◌<◌, ◌-◌, ◌+◌, ◌++◌, ◌∷◌, [], inl, inr, ⊎_elim, drop, get_or, take, zip, append-nil, ap, sym, arith}
 use Rattle.std.proofs.lemmas.List.{drop-drop, length-drop, length-take, nil_from_length}
 use Rattle.fz_machine.specs.Regions.{Regions}
 use Rattle.fz_machine.proofs.Noting.{all_told, at_end, one_heard, word_at}

@@ -1,7 +1,7 @@
-use Rattle.std.proofs.Common.{◌≡◌, ◌∙◌, ◌+◌, ◌++◌, ◌∷◌, [], ℕ, drop, map, take, zip, List, ap, sym, refl, arith}
+use Rattle.std.proofs.Common.{◌≡◌, ◌∙◌, ◌++◌, ◌∷◌, [], drop, map, zip, ap, refl, arith}
 use Rattle.indexmap.specs.IndexMap.{set_value_at}
 use Rattle.fz_machine.specs.declared.regions.Noted.{Noted}
-use Rattle.fz_machine.specs.Regions.{Regions, placed, worded}
+use Rattle.fz_machine.specs.Regions.{Regions, placed}
 use Rattle.fz_machine.proofs.Noting.{keys_set, length_by, one_less, one_told, placed_set, regions_by_keys}
 use Rattle.fz_machine.proofs.regions.Regions.hear_one.Goals as goal
 

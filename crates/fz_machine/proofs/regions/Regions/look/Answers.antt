@@ -1,4 +1,4 @@
-use Rattle.std.proofs.Common.{◌≡◌, ◌∙◌, Some, IsTrue, sym, ap}
+use Rattle.std.proofs.Common.{◌∙◌, sym, ap}
 use Rattle.fz_machine.specs.Regions.{Regions}
 use Rattle.fz_machine.proofs.Noting.{told_marked, told_unmarked}
 use Rattle.fz_machine.proofs.regions.Regions.look.Goals as goal

@@ -1,14 +1,14 @@
-use Rattle.std.proofs.Common.{◌≡◌, ◌∙◌, ◌≤◌, ◌+◌, ◌-◌, ◌++◌, ℕ, List, drop, length, min, take, ap, sym, subst, refl, arith}
-use Rattle.std.proofs.lemmas.List.{drop-drop, drop_min, length-drop, take_min}
+use Rattle.std.proofs.Common.{◌≡◌, ◌∙◌, ◌+◌, ◌++◌, List, drop, length, min, take, ap, sym, subst, arith}
+use Rattle.std.proofs.lemmas.List.{drop-drop, drop_min, length-drop}
 use Rattle.fz_machine.specs.declared.item.Item.{Item}
 use Rattle.fz_machine.specs.Asks.{bits_of}
 use Rattle.fz_machine.specs.Sifts.{chosen}
 use Rattle.fz_machine.specs.Walks.{Walk}
 use Rattle.fz_machine.proofs.Index.{written_whole}
-use Rattle.fz_machine.proofs.Masked.{chosen_few}
+use Rattle.fz_machine.proofs.Masked.{chosen_few, kept_whole}
 use Rattle.fz_machine.proofs.walk.Walk.sift.Goals as goal
 
-module _ (c : goal.After-self-3-1) where
+module _ (c : goal.After-self-4-1) where
   abbrev was : List Item
   was = c.self.inside.items.items
 
@@ -27,8 +27,8 @@ module _ (c : goal.After-self-3-1) where
   few : c.min-few.result ≡ min c.args.count (length (drop c.self.inside.place was))
   few = let is = c.min-few.ensures in let len = c.self.inside.items.ok.0 in let dropped = length-drop c.self.inside.place was in omega (arith, is, len, dropped)
 
-pub invariant_of-self : goal.invariant_of-self
-invariant_of-self c =
+pub invariant_of-self-2 : goal.invariant_of-self-2
+invariant_of-self-2 c =
     let at_most = c.choose-kept.ensures.few in
     let within = few c in
     let dropped = length-drop c.self.inside.place (was c) in
@@ -49,3 +49,13 @@ returns-clause-left c =
     let i = c.self.inside in
     let stays = subst (λ (xs : List Item). drop (i.place + c.min-few.result) (now c) ≡ drop (i.place + c.min-few.result) xs) (value c) c.choose-kept.ensures.left in
     ap (drop (i.place + c.min-few.result)) (back c) ∙ stays ∙ sym (drop-drop c.min-few.result i.place (was c)) ∙ ap (λ n. drop n (drop i.place (was c))) (few c) ∙ drop_min c.args.count (drop i.place (was c)) ∙ ap (λ (w : Walk). drop c.args.count w.left) c.self.view_is
+
+pub returns-then-self-clause-kept : goal.returns-then-self-clause-kept
+returns-then-self-clause-kept c =
+    let i = c.self.inside in
+    let items = i.items.items in
+    let is = c.min-few.ensures in
+    let len = i.items.ok.0 in
+    let dropped = length-drop i.place items in
+    kept_whole c.args.bits c.args.count c.min-few.result i.kept i.place items c.if-bits.true c.requires c.if-self.true (omega (arith, is, len, dropped))
+    ∙ ap (λ (w : Walk). w.kept ++ chosen (take c.args.count (bits_of c.args.bits)) w.left) c.self.view_is
