@@ -1,23 +1,25 @@
 -- What a collection marks, and what it leaves.
-use Rattle.std.proofs.Common.{◌≡◌, ℕ, ◌+◌, ◌<◌, ◌≤◌, ◌↔◌, ◌⊎◌, ◌++◌, ◌∷◌, [], Bool, true, false, cond, List, length, take, get_or, Option, Some, None, option_map, refl, sym, ap, ◌∙◌, subst, inl, inr, ⊎_elim, arith, Contains}
-use Rattle.std.proofs.lemmas.Bool.{cases_lt}
+use Rattle.std.proofs.Common.{◌≡◌, ℕ, ◌+◌, ◌<◌, ◌≤◌, ◌↔◌, ◌⊎◌, ◌++◌, ◌∷◌, [], Bool, true, false, cond, List, length, take, get_or, Option, Some, None, option_map, refl, is_some, sym, ap, ◌∙◌, subst, inl, inr, ⊎_elim, arith, Contains, IsTrue}
+use Rattle.std.proofs.lemmas.Bool.{both_ways, cases_lt}
 use Rattle.std.proofs.lemmas.List.{get_or_past, take_more}
 use Rattle.std.proofs.lemmas.List.Elements.{Contains-append_left, Contains-push, Contains-push_cases}
-use Rattle.std.proofs.lemmas.Option.{same_Some}
+use Rattle.std.proofs.lemmas.Option.{none-some, same_Some}
 use Rattle.std.specs.Option.{option_map_or}
 use Rattle.std.specs.Cmp.{nat_cmp_total}
-use Rattle.std.specs.FinMap.{same_map, nat_cmp-IsAntisymmetric, retain_keys}
+use Rattle.std.specs.FinMap.{contains_key, get, same_map, nat_cmp-IsAntisymmetric, retain_keys}
 use Rattle.fz_model.specs.State.{Map, Object}
 use Rattle.fz_model.specs.Memory.{points}
 use Rattle.fz_model.specs.Reachability.{Leads}
 use Rattle.fz_model.proofs.Maps.{get-retain}
 use Rattle.fz_pass.specs.Marks.{IsClosed, Marks}
+use Rattle.own_heap.specs.declared.record.Field.{Field}
+use Rattle.own_heap.specs.declared.record.Field.TheVariants.{Nothing}
 use Rattle.own_heap.specs.declared.record.Record.{Record}
 use Rattle.own_heap.specs.declared.record.RecordId.{RecordId}
-use Rattle.own_heap.specs.Records.{address_of, place_of, object_of, objects_of, IsLedByWord, IsLedByRoot}
+use Rattle.own_heap.specs.Records.{address_of, field_at, place_of, object_of, objects_of, AreFieldsKept, AreFieldsLeft, IsLedByWord, IsLedByRoot}
 use Rattle.own_heap.specs.Marking.{is_in}
-use Rattle.own_heap.specs.Collected.{IsLedByAny}
-use Rattle.own_heap.proofs.Slots.{object_in, get-objects, points_is, nowhere}
+use Rattle.own_heap.specs.Collected.{IsLedByAny, Remain}
+use Rattle.own_heap.proofs.Slots.{object_in, get-objects, place_of-address, points_is, nowhere, stands}
 
 -- the object to which a word points leads to the same
 pub led_by_word : (objects : Map Object) (word object : ℕ) → points objects word ≡ Some object → (a : ℕ) → ((from : ℕ) × (from ≡ object) × Leads objects from a) ↔ IsLedByWord objects word a
@@ -62,6 +64,55 @@ swept old new marked n size all by_place =
         (λ low. ap (option_map object_of) (by_place i low) ∙ turned (get_or marked i false) (get_or old i None) ∙ ap (λ b. cond b (option_map object_of (get_or old i None)) None) (ap (λ p. option_map_or (λ place. get_or marked place false) p false) (sym is)))
         (λ past. ap (option_map object_of) (get_or_past new i None (omega arith)) ∙ none (is_in marked q) (option_map object_of (get_or old i None)) (ap (option_map object_of) (sym (get_or_past old i None (omega arith)))))
         (cases_lt i n)
+
+-- the same by places
+pub swept_places : (old new : List (Option Record)) (marked : List Bool) (n : ℕ) → length new ≡ length old → length old ≤ n → ((k : ℕ) → k < n → get_or new k None ≡ cond (get_or marked k false) (get_or old k None) None)
+    → (place : ℕ) → get_or new place None ≡ cond (is_in marked (address_of place)) (get_or old place None) None
+swept_places old new marked n size all by_place place =
+    ⊎_elim
+    (λ low. by_place place low ∙ ap (λ p. cond (option_map_or (λ i. get_or marked i false) p false) (get_or old place None) None) (sym (place_of-address place)))
+    (λ past. get_or_past new place None (omega arith) ∙ none (is_in marked (address_of place)) (get_or old place None) (sym (get_or_past old place None (omega arith))))
+    (cases_lt place n)
+  where
+    none : (b : Bool) (s : Option Record) → None ≡ s → None ≡ cond b s None
+    none true s is = is
+    none false s is = refl
+
+-- what is swept of records whose fields are kept
+pub fields_left : (old mid new : List (Option Record)) (marked : ℕ → Bool) → AreFieldsKept old mid → ((place : ℕ) → get_or new place None ≡ cond (marked (address_of place)) (get_or mid place None) None) → AreFieldsLeft old new
+fields_left old mid new marked kept left place k = by (marked (address_of place)) (left place)
+  where
+    field : Option Record → Option Field
+    field = option_map (λ (r : Record). get_or r.fields k Nothing)
+
+    by : (b : Bool) → get_or new place None ≡ cond b (get_or mid place None) None → (field_at new place k ≡ None) ⊎ ((field_at new place k ≡ field_at old place k) ⊎ (field_at new place k ≡ Some Nothing))
+    by true is = inr (⊎_elim (λ same. inl (ap field is ∙ same)) (λ none. inr (ap field is ∙ none)) (kept place k))
+    by false is = inl (ap field is)
+
+-- a record whose fields are kept stands
+pub fields_stand : (old new : List (Option Record)) → AreFieldsKept old new → (a : ℕ) → IsTrue (contains_key (objects_of old) a) → IsTrue (contains_key (objects_of new) a)
+fields_stand old new kept a here = at (get (objects_of old) a) refl here
+  where
+    has : (s : Option Record) (f : Field) → option_map (λ (r : Record). get_or r.fields 0 Nothing) s ≡ Some f → IsTrue (is_some (option_map object_of s))
+    has None f is = absurd (none-some f is)
+    has (Some r) f is = refl
+
+    at : (o : Option Object) → get (objects_of old) a ≡ o → IsTrue (is_some o) → IsTrue (contains_key (objects_of new) a)
+    at None is h = absurd (both_ways false refl h)
+    at (Some o) is h =
+        let s = stands old a o is in
+        let first = ap (option_map (λ (r : Record). get_or r.fields 0 Nothing)) s.slot in
+        let there = ⊎_elim (λ same. has (get_or new s.place None) (get_or s.read.fields 0 Nothing) (same ∙ first)) (λ none. has (get_or new s.place None) Nothing none) (kept s.place 0) in
+        ap is_some (get-objects new a ∙ ap (object_in new) s.at) ∙ there
+
+-- of the objects those that are marked remain
+pub marked_remain : (old mid : List (Option Record)) (left : Map Object) (marked : ℕ → Bool) → AreFieldsKept old mid → left ≡ retain_keys (objects_of mid) marked → Remain (objects_of old) left marked
+marked_remain old mid left marked kept is a here =
+    by (marked a) (get (objects_of mid) a) (fields_stand old mid kept a here) ∙ sym (ap is_some (ap (λ m. get m a) is ∙ get-retain (objects_of mid) marked a))
+  where
+    by : (b : Bool) (o : Option Object) → IsTrue (is_some o) → b ≡ is_some (cond b o None)
+    by true o h = sym h
+    by false o h = refl
 
 -- no word leads to anything
 pub marks_nothing : (objects : Map Object) (marked : ℕ → Bool) → IsClosed objects marked → Marks (Unit {0}) objects marked marked (IsLedByAny objects [])

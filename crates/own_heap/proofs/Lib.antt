@@ -14,5 +14,6 @@ pub mod Pointed
 pub mod Guarding
 pub mod Weak
 pub mod Without
+pub mod Attaching
 pub mod KeyedPairs
 pub mod KeptValues

@@ -59,7 +59,7 @@ module _ (slots : List (Option Record)) (roots : List RecordId) (old : State) (l
   pub collects_by_paths : CollectsByPaths objects roots old left new × (new.ephemerons ≡ no_ephemerons)
   collects_by_paths =
       let by = by_paths (Unit {0}) place_of_link value_of (contains c.begun.late) (parts_in objects c.begun) normal (zero_nowhere slots) (next_pass old.passes) (length c.begun.queue) c.found (parts_in left c.passed) c.passed.ephemerons c.begun.queue c.passed.queue found_closed decided in (
-        record { found = c.found; marks = all_also same c.marks; begun = c.begun; passed = c.passed; marked = c.marked; short = c.short; decided = by.flagged; follows = c.follows; long = c.long },
+        record { found = c.found; marks = all_also same c.marks; begun = c.begun; passed = c.passed; marked = c.marked; remain = c.remain; short = c.short; decided = by.flagged; follows = c.follows; long = c.long },
         ap (λ (s : State). s.ephemerons) c.long.2 ∙ by.none,
       )
 

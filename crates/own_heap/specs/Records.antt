@@ -86,6 +86,10 @@ field_at slots place k = option_map (λ (r : Record). slice_index_or r.fields k 
 abbrev pub AreFieldsKept : List (Option Record) → List (Option Record) → Type 0
 AreFieldsKept old new = (place k : ℕ) → (field_at new place k ≡ field_at old place k) ⊎ (field_at new place k ≡ Some Nothing)
 
+-- the same of the records that remain; the fields of the others are gone
+abbrev pub AreFieldsLeft : List (Option Record) → List (Option Record) → Type 0
+AreFieldsLeft old new = (place k : ℕ) → (field_at new place k ≡ None) ⊎ ((field_at new place k ≡ field_at old place k) ⊎ (field_at new place k ≡ Some Nothing))
+
 -- the value of an ephemeron: the record that the field with this address hides
 abbrev pub value_of : Map Object → ℕ → Option ℕ
 value_of objects word = points objects (word_at objects word - FIELDS)

@@ -4,6 +4,7 @@ ghost use Rattle.std.specs.Prelude.{◌≡◌, ◌⊎◌, is_some, IfOk, IfErr, 
 ghost use Rattle.std.specs.FinMap.{contains_key, get};
 ghost use Rattle.fz_finalizers.specs.Causes.{IsJudgedOrLacks, link_causes};
 ghost use Rattle.fz_finalizers.specs.Follows.{Follows, Ephemeron};
+ghost use Rattle.fz_finalizers.specs.States.{IsRoomier};
 ghost use Rattle.own_heap.specs.Keyed.{HasKey};
 ghost use Rattle.own_heap.specs.Records.{address_of, objects_of, slot, value_of, with_field_at};
 
@@ -46,6 +47,7 @@ impl EphemeronPair {
         ensures follows { OnOk result (Follows runtime.old.finalizers.state (Ephemeron LinkKind.Short (address_of id.place) (address_of key.place)) runtime.new.finalizers.state) }
         ensures set { OnOk result (runtime.new.heap.records.slots.items ≡ with_field_at id.place 0 (Field.Hidden value) runtime.old.heap.records.slots.items) }
         ensures rest { OnOk result ((runtime.new.heap.roots ≡ runtime.old.heap.roots) × (runtime.new.heap.births ≡ runtime.old.heap.births)) }
+        ensures room { IsRoomier runtime.old.finalizers.rooms runtime.new.finalizers.rooms }
     {
         runtime.ephemeron(LinkKind::Short, id.address(), key)?;
         runtime.set(id, 0, Field::Hidden(value));

@@ -6,7 +6,7 @@ ghost use Rattle.fz_model.specs.Steps.{old_of};
 ghost use Rattle.fz_model.specs.declared.answers.Entry.{Entry};
 ghost use Rattle.fz_finalizers.specs.Causes.{IsJudgedOrLacks, register_causes};
 ghost use Rattle.fz_finalizers.specs.Follows.{Follows, Register};
-ghost use Rattle.fz_finalizers.specs.States.{unfinished};
+ghost use Rattle.fz_finalizers.specs.States.{unfinished, IsRoomier, Spends, UsesEntry};
 ghost use Rattle.own_heap.specs.Guarding.{is_guarded, GivesNone, IsGiven};
 ghost use Rattle.own_heap.specs.Records.{address_of, slot};
 
@@ -80,6 +80,7 @@ impl Guardian {
         ensures number { IfOk result (λ answer. answer.0 ≡ runtime.old.finalizers.next_number) }
         ensures replaced { IfOk result (λ answer. answer.1 ≡ old_of runtime.old.finalizers.registrations (address_of id.place)) }
         ensures follows { OnOk result (Follows runtime.old.finalizers.state (Register (address_of id.place) (record { kind = Kind.NoOrder; procedure = self.procedure; client_data = 0; rank = 0 })) runtime.new.finalizers.state) }
+        ensures room { Spends UsesEntry result runtime.old.finalizers.rooms runtime.new.finalizers.rooms }
     {
         runtime.register(id, self.finalizer())
     }
@@ -90,6 +91,7 @@ impl Guardian {
         ensures heap { runtime.new.heap ≡ runtime.old.heap }
         ensures given { MatchOption result (GivesNone self.procedure runtime.old.finalizers.state runtime.new.finalizers.state) (IsGiven self.procedure runtime.old.finalizers.state runtime.new.finalizers.state) }
         ensures stands { IfSome result (λ id. IsTrue (is_some (slot runtime.new.heap.records.slots.items id.place))) }
+        ensures room { IsRoomier runtime.old.finalizers.rooms runtime.new.finalizers.rooms }
     {
         let Some(entry) = first_guarded(&runtime.finalizers, self.procedure) else {
             return None;

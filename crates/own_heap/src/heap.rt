@@ -1,6 +1,6 @@
 //! A heap of records.
 
-ghost use Rattle.std.specs.Prelude.{◌≡◌, ◌+◌, ◌^◌, ◌<◌, ◌≤◌, ◌⊎◌, [], false, is_some, length, replicate, IfOk, IfSome, IsTrue, MatchOption, None, Some};
+ghost use Rattle.std.specs.Prelude.{◌≡◌, ◌+◌, ◌^◌, ◌<◌, ◌≤◌, ◌⊎◌, [], ℕ, false, if◌then◌else◌, is_some, length, replicate, IfOk, IfSome, IsTrue, MatchOption, None, Some};
 ghost use Rattle.std.specs.FinMap.{get, retain_keys};
 ghost use Rattle.std.specs.Option.{option_copied};
 ghost use Rattle.fz_pass.specs.Marks.{IsClosed, Marks as MarksOf};
@@ -137,6 +137,8 @@ impl Heap {
     /// Ends a collection: frees the unmarked records, whose indices can be used again.
     pub fn sweep(&mut self)
         ensures objects { objects_of self.new.records.slots.items ≡ retain_keys (objects_of self.old.records.slots.items) (is_marked self.old.marks) }
+        // The marked records are unchanged, also numbers in their fields, which the model's objects don't have.
+        ensures records { (place : ℕ) → slot self.new.records.slots.items place ≡ (if is_marked self.old.marks (address_of place) then slot self.old.records.slots.items place else None) }
         ensures size { length self.new.records.slots.items ≡ length self.old.records.slots.items }
         ensures cursor { self.new.cursor ≡ 0 }
         ensures rest { (self.new.roots ≡ self.old.roots) × (self.new.births ≡ self.old.births) }

@@ -1,10 +1,10 @@
-//! How the model's objects relate to records, what weak pairs and ephemeron pairs have, and what collections do without ephemerons.
+//! How the model's objects relate to records, what weak pairs and ephemeron pairs have, which cleanups are left, and what collections do without ephemerons.
 
 ghost use Rattle.std.specs.Prelude.{List, Option};
 ghost use Rattle.own_heap.specs.Records.{HiddenAreValues, MadeIsInserted, ReferencesAreChildren, ValuesStay};
 ghost use Rattle.fz_model.specs.State.{Map, Object};
 ghost use Rattle.fz_finalizers.specs.States.{State};
-ghost use Rattle.own_heap.specs.Collected.{CollectsWithout};
+ghost use Rattle.own_heap.specs.Collected.{CleanupsGo, CollectsWithout};
 ghost use Rattle.own_heap.specs.Guarding.{PairsAreWeak};
 ghost use Rattle.own_heap.specs.Keyed.{KeysAreNotRetained, PairsKeepValues, PairsLoseKeys};
 ghost use Rattle.own_heap.specs.declared.record.Record.{Record};
@@ -27,6 +27,12 @@ pub fn pairs_are_weak()
 /// Does nothing. Its contract says that without ephemerons a collection finds, queues and retains by what the roots reach alone, as `Finalizers::pass` says.
 pub fn collections_without_ephemerons()
     ensures { (slots : List (Option Record)) (roots : List RecordId) (old : State) (left : Map Object) (new : State) → CollectsWithout slots roots old left new }
+{}
+
+/// Does nothing. Its contract says that after a collection a short cleanup of a record is left exactly if the record was found, and a long one exactly if the
+/// record remains.
+pub fn cleanups_go_with_records()
+    ensures { (slots : List (Option Record)) (roots : List RecordId) (old : State) (left : Map Object) (new : State) → CleanupsGo slots roots old left new }
 {}
 
 /// Does nothing. Its contract says that an ephemeron never retains its own key; and that an ephemeron pair has its key as long as collections find that, and

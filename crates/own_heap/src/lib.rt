@@ -23,7 +23,8 @@ pub use ephemeron::EphemeronPair;
 pub use guardian::Guardian;
 pub use heap::Heap;
 pub use law::{
-    collections_without_ephemerons, keys_are_not_retained, objects_are_records, pairs_are_weak,
+    cleanups_go_with_records, collections_without_ephemerons, keys_are_not_retained,
+    objects_are_records, pairs_are_weak,
 };
 pub use pair::WeakPair;
 pub use record::{FIELDS, Field, OUTSIDE, Record, RecordId};

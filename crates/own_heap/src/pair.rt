@@ -4,6 +4,7 @@ ghost use Rattle.std.specs.Prelude.{◌≡◌, is_some, IfErr, IfOk, IfSome, IsT
 ghost use Rattle.std.specs.FinMap.{get};
 ghost use Rattle.fz_finalizers.specs.Causes.{IsJudgedOrLacks, link_causes};
 ghost use Rattle.fz_finalizers.specs.Follows.{Follows, Link};
+ghost use Rattle.fz_finalizers.specs.States.{Spends, UsesLink};
 ghost use Rattle.own_heap.specs.Records.{address_of, slot, with_field_at};
 
 use crate::record::{Field, RecordId};
@@ -31,6 +32,7 @@ impl WeakPair {
         ensures follows { OnOk result (Follows runtime.old.finalizers.state (Link LinkKind.Long (address_of id.place) (address_of first.place)) runtime.new.finalizers.state) }
         ensures set { OnOk result (runtime.new.heap.records.slots.items ≡ with_field_at id.place 0 (Field.Number (address_of first.place)) runtime.old.heap.records.slots.items) }
         ensures rest { OnOk result ((runtime.new.heap.roots ≡ runtime.old.heap.roots) × (runtime.new.heap.births ≡ runtime.old.heap.births)) }
+        ensures room { Spends (UsesLink LinkKind.Long) result runtime.old.finalizers.rooms runtime.new.finalizers.rooms }
     {
         runtime.link(LinkKind::Long, id.address(), first)?;
         runtime.set(id, 0, Field::Number(first.address()));

@@ -8,7 +8,7 @@ ghost use Rattle.fz_pass.specs.Keyed as keyed;
 ghost use Rattle.fz_finalizers.specs.Causes.{IsJudgedBy, IsJudgedOrLacks, add_causes, finish_causes, link_causes, move_causes, register_causes};
 ghost use Rattle.fz_finalizers.specs.States.{HasRooms, IsRoomier, Spends, UsesEntry, UsesLink, links_of, opening, room_of, waiting};
 ghost use Rattle.fz_finalizers.specs.Follows.{Follows, Register, Unregister, Link, Unlink, Move, Ephemeron, EndEphemeron, MoveEphemeron, AddCleanup, Cancel, Take, Finish, next_pass};
-ghost use Rattle.own_heap.specs.Records.{address_of, objects_of, slot, with_field_at, IsFull, IsMade};
+ghost use Rattle.own_heap.specs.Records.{address_of, objects_of, slot, with_field_at, AreFieldsLeft, IsFull, IsMade};
 ghost use Rattle.fz_pass.specs.Marks.{IsClosed};
 ghost use Rattle.fz_finalizers.specs.Walks.{registrations_in_order};
 ghost use Rattle.own_heap.specs.Told.{AreStuckRecords, IsToldOfRecord};
@@ -314,6 +314,8 @@ impl Runtime {
         ensures pass { result.pass ≡ next_pass self.old.finalizers.passes }
         ensures picked { length self.new.finalizers.queue ≡ length self.old.finalizers.queue + result.picked }
         ensures cursor { self.new.heap.cursor ≡ 0 }
+        // Records that remain are unchanged but for fields that were cleared, also numbers in their fields.
+        ensures fields { AreFieldsLeft self.old.heap.records.slots.items self.new.heap.records.slots.items }
         ensures held { HeldStand (objects_of self.new.heap.records.slots.items) self.new.finalizers.state }
         ensures rest { (self.new.heap.roots ≡ self.old.heap.roots) × (self.new.heap.births ≡ self.old.heap.births) }
     {

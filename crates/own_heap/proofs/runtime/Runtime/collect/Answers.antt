@@ -11,11 +11,11 @@ use Rattle.fz_finalizers.specs.Follows.{next_pass}
 use Rattle.fz_finalizers.specs.Passed.{PassesWhole, parts_in}
 use Rattle.own_heap.specs.declared.records.Records.{Records}
 use Rattle.own_heap.specs.Outside.{place_of_link}
-use Rattle.own_heap.specs.Records.{objects_of, value_of}
+use Rattle.own_heap.specs.Records.{objects_of, value_of, AreFieldsKept}
 use Rattle.own_heap.specs.Marking.{is_marked}
 use Rattle.own_heap.specs.Sound.{IsSound}
 use Rattle.own_heap.specs.Collected.{MarksKept}
-use Rattle.own_heap.proofs.Collected.{zero_nowhere}
+use Rattle.own_heap.proofs.Collected.{fields_left, marked_remain, zero_nowhere}
 use Rattle.own_heap.proofs.Keeping.{cleans_back, cleans_sound, passed_registered, passed_short, passed_long, passed_short_keys, passed_long_keys, passed_held}
 use Rattle.own_heap.proofs.Holding.{held_found}
 use Rattle.own_heap.proofs.runtime.Runtime.collect.Goals as goal
@@ -101,6 +101,7 @@ returns-clause-collected c =
       begun = p.begun;
       passed = p.passed;
       marked = is_marked host.marks;
+      remain = marked_remain old.heap.records.slots.items host.records.slots.items _ (is_marked host.marks) (subst (λ (r : Records). AreFieldsKept r.slots.items host.records.slots.items) last c.pass_with_ephemerons-passed.ensures.same.3) c.sweep.ensures.objects;
       short = p.short;
       decided = subst
           (λ (left : Map Object). DecidesWhole (Unit {0}) place_of_link value_of (contains p.begun.late) (next_pass state.passes) (length p.begun.queue) (parts_in (objects_of old.heap.records.slots.items) p.begun) p.begun.ephemerons whole.0
@@ -109,3 +110,13 @@ returns-clause-collected c =
       follows = p.follows;
       long = p.long;
     }
+
+pub returns-clause-fields : goal.returns-clause-fields
+returns-clause-fields c =
+    let old = c.args.self.now in
+    let first = c.mark_roots.ensures.rest.0 in
+    let second = c.mark_kept.ensures.rest.0 ∙ first in
+    let third = c.mark_kept-2.ensures.rest.0 ∙ second in
+    let last = c.mark_kept-3.ensures.rest.0 ∙ third in
+    let host = c.pass_with_ephemerons-passed.new.host in
+    fields_left old.heap.records.slots.items host.records.slots.items _ (is_marked host.marks) (subst (λ (r : Records). AreFieldsKept r.slots.items host.records.slots.items) last c.pass_with_ephemerons-passed.ensures.same.3) c.sweep.ensures.records
