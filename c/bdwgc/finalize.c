@@ -1,8 +1,8 @@
 /* finalize.c of bdwgc over derrimas_finalizers.h: it stands in the place of the package's own file, which is compiled with it as finalize_package.c.
  *
  * Registrations, disappearing links, the pass and the queue are the library's. This file has gc.h's calls for them, what the pass asks of bdwgc's heap,
- * and memory. From the package's file come toggle references, the awaited procedure, the rules of the notifier and of nesting, and how an object's words
- * are marked. Its other functions are compiled under other names, which nothing calls.
+ * and memory. From the package's file come toggle references, the awaited procedure, the rules of the notifier and of nesting, whether entries wait, and how
+ * an object's words are marked. Its other functions are compiled under other names, which nothing calls.
  *
  * All is used under the lock of bdwgc's allocator. A conservative collector sees the stack, where the library's questions lie, and in some forms all
  * memory. So the library is given addresses with the highest bit turned, which look like none and keep their order.
@@ -42,8 +42,7 @@
 #define GC_finalize GC_package_finalize
 #define GC_finalize_all GC_package_finalize_all
 #define GC_print_finalization_stats GC_package_print_finalization_stats
-/* What stays calls these two. With `void` between its brackets the name is a definition's, and another; with nothing it is a call's, and the same. */
-#define GC_should_invoke_finalizers(nothing) GC_##nothing##should_invoke_finalizers(nothing)
+/* What stays calls this one. With `void` between its brackets the name is a definition's, and another; with nothing it is a call's, and the same. */
 #define GC_invoke_finalizers(nothing) GC_##nothing##invoke_finalizers(nothing)
 
 /* With internal linkage, which their definitions keep, a compiler leaves them out. */
@@ -63,7 +62,6 @@ static void GC_package_dump_finalization(void);
 static void GC_package_finalize(void);
 static void GC_package_finalize_all(void);
 static void GC_package_print_finalization_stats(void);
-static int GC_voidshould_invoke_finalizers(void);
 static int GC_voidinvoke_finalizers(void);
 
 #pragma GCC diagnostic push
@@ -87,7 +85,6 @@ static int GC_voidinvoke_finalizers(void);
 #undef GC_finalize
 #undef GC_finalize_all
 #undef GC_print_finalization_stats
-#undef GC_should_invoke_finalizers
 #undef GC_invoke_finalizers
 
 /* ---- the library's memory: from the system alone, so that it asks for it under the lock, also where malloc is bdwgc's own */
@@ -230,7 +227,7 @@ static GC_bool is_open(void)
     return opened;
 }
 
-/* Tells the package's file whether entries wait: its rule of the notifier looks there. */
+/* Tells the package's file whether entries wait: GC_should_invoke_finalizers and the rule of the notifier look there. */
 static void tell_waiting(void)
 {
     SET_FINALIZE_NOW(derrimas_finalizers_has_waiting(&finalizers) ? (struct finalizable_object *)(void *)&finalizers : NULL);
@@ -269,7 +266,8 @@ static word had_data(const derrimas_finalizers_old *old) { return old->was ? is_
 /* ---- registrations */
 
 /* Registers or removes, under the lock. FALSE: there was no memory. */
-static GC_bool change(uint64_t object, GC_finalization_proc proc, uint64_t cd, derrimas_finalizers_kind kind, derrimas_finalizers_old *old)
+__attribute__((always_inline)) GC_INLINE GC_bool change(uint64_t object, GC_finalization_proc proc, uint64_t cd, derrimas_finalizers_kind kind,
+                                                        derrimas_finalizers_old *old)
 {
     if (proc == 0) {
         (void)derrimas_finalizers_unregister(&finalizers, object, old);
@@ -379,8 +377,9 @@ static GC_bool is_word(void *link) { return ((word)link & (ALIGNMENT - 1)) == 0;
 typedef derrimas_finalizers_code making(derrimas_finalizers *, derrimas_finalizers_link_kind, uint64_t word, uint64_t target, derrimas_finalizers_linked *);
 
 /* Makes a link of a word, or an ephemeron, whose target is its key. */
-static int make(making *how, derrimas_finalizers_link_kind kind, void **link, const void *target)
+__attribute__((always_inline)) GC_INLINE int make(GC_bool is_ephemeron, derrimas_finalizers_link_kind kind, void **link, const void *target)
 {
+    making *const how = is_ephemeron ? derrimas_finalizers_ephemeron : derrimas_finalizers_link;
     const uint64_t place = HIDE(link), hidden = HIDE(target);
     derrimas_finalizers_linked answer = DERRIMAS_FINALIZERS_LINKED;
     void *value;
@@ -391,7 +390,7 @@ static int make(making *how, derrimas_finalizers_link_kind kind, void **link, co
         ABORT("A disappearing link at no word");
     if (EXPECT(GC_find_leak, FALSE))
         return GC_UNIMPLEMENTED;
-    value = *link; /* an ephemeron's: the word retains it only once it is one */
+    value = is_ephemeron ? *link : NULL; /* the word retains it only once it is an ephemeron */
     LOCK();
     GC_ASSERT(target != NULL && GC_base_C(target) == target);
     done = is_open() && how(&finalizers, kind, place, hidden, &answer) == DERRIMAS_FINALIZERS_OK;
@@ -404,7 +403,8 @@ static int make(making *how, derrimas_finalizers_link_kind kind, void **link, co
     return done ? DERRIMAS_FINALIZERS_GC_ANSWER(answer) : GC_NO_MEMORY;
 }
 
-static int make_link(derrimas_finalizers_link_kind kind, void **link, const void *target) { return make(derrimas_finalizers_link, kind, link, target); }
+static int make_link(derrimas_finalizers_link_kind kind, void **link, const void *target) { return make(FALSE, kind, link, target); }
+static int make_ephemeron(derrimas_finalizers_link_kind kind, void **value, const void *key) { return make(TRUE, kind, value, key); }
 
 static int remove_link(derrimas_finalizers_link_kind kind, void **link)
 {
@@ -452,12 +452,12 @@ GC_API int GC_CALL GC_move_long_link(void **link, void **to) { return move_link(
 
 GC_API int GC_CALL GC_register_ephemeron(void **value, const void *key)
 {
-    return is_first_byte(key) ? make(derrimas_finalizers_ephemeron, DERRIMAS_FINALIZERS_SHORT, value, key) : GC_NOT_FOUND;
+    return is_first_byte(key) ? make_ephemeron(DERRIMAS_FINALIZERS_SHORT, value, key) : GC_NOT_FOUND;
 }
 
 GC_API int GC_CALL GC_register_long_ephemeron(void **value, const void *key)
 {
-    return is_first_byte(key) ? make(derrimas_finalizers_ephemeron, DERRIMAS_FINALIZERS_LONG, value, key) : GC_NOT_FOUND;
+    return is_first_byte(key) ? make_ephemeron(DERRIMAS_FINALIZERS_LONG, value, key) : GC_NOT_FOUND;
 }
 
 GC_API int GC_CALL GC_unregister_ephemeron(void **value)
@@ -533,36 +533,34 @@ static ptr_t pointed(word value)
     return GC_all_interior_pointers || (distance < VALID_OFFSET_SZ && GC_valid_offsets[distance]) ? object : NULL;
 }
 
-static bool ring_child(void *from, uint64_t object, uint64_t n, uint64_t *link, uint64_t *child)
+/* Each word counts, so none has a number: the short links that are left have reachable targets, and the collector scans the words of ephemerons with their
+ * objects. */
+static bool ring_child(void *nothing, uint64_t object, uint64_t n, uint64_t *link, uint64_t *child)
 {
     word *const at = (word *)(void *)SHOW(object) + n;
     ptr_t target;
 
-    (void)from;
+    (void)nothing;
     if (n >= scanned_words(HDR(SHOW(object))))
         return false;
     target = pointed(*at);
-    *link = 0; /* so it counts: the short links that are left count, and the collector scans the words of ephemerons with their objects */
+    *link = 0;
     *child = target ? HIDE(target) : 0;
     return true;
 }
 
-/* The short links that are left lead to objects that were found, so their words count. Other roots don't matter: no ring was found. */
-static bool ring_root(void *from, uint64_t n, uint64_t *root)
+/* bdwgc's roots reach no ring that is told. */
+static bool no_root(void *nothing, uint64_t n, uint64_t *root)
 {
-    derrimas_finalizers_link_at link;
-    size_t count;
-
+    (void)nothing;
     (void)n;
-    if (derrimas_finalizers_links(&finalizers, DERRIMAS_FINALIZERS_SHORT, (uint64_t *)from, &link, 1, &count) != DERRIMAS_FINALIZERS_OK)
-        return false;
-    *root = link.target;
-    return true;
+    (void)root;
+    return false;
 }
 
-static bool is_ring_data(void *from, uint64_t cd)
+static bool is_ring_data(void *nothing, uint64_t cd)
 {
-    (void)from;
+    (void)nothing;
     return SHOW(cd) != NULL && (ptr_t)GC_base(SHOW(cd)) == SHOW(cd);
 }
 
@@ -591,12 +589,12 @@ static void tell_ring(const uint64_t *path, size_t length)
 /* The same ring is told once in the passes that follow each other, since that takes as long as marking. */
 static void warn_of_ring(void)
 {
-    static const derrimas_paths paths = {ring_child, ring_root, is_ring_data};
-    uint64_t path[MOST_STEPS], from = 0;
+    static const derrimas_paths paths = {ring_child, no_root, is_ring_data};
+    uint64_t path[MOST_STEPS];
     derrimas_why why;
 
     if (ring && GC_current_warn_proc != GC_ignore_warn_proc) {
-        if (ring != told_ring && derrimas_finalizers_why(&finalizers, ring, &paths, &from, &why, path, MOST_STEPS) == DERRIMAS_FINALIZERS_OK
+        if (ring != told_ring && derrimas_finalizers_why(&finalizers, ring, &paths, NULL, &why, path, MOST_STEPS) == DERRIMAS_FINALIZERS_OK
             && why.reason == DERRIMAS_WHY_RING)
             tell_ring(path, why.length);
         else
@@ -855,8 +853,6 @@ GC_INNER void GC_finalize(void)
 }
 
 /* ---- the entries */
-
-GC_API int GC_CALL GC_should_invoke_finalizers(void) { return derrimas_finalizers_has_waiting(&finalizers); }
 
 /* An entry that was taken, with its addresses shown: from then on the stack alone keeps what it has. */
 struct taken {

@@ -4,7 +4,7 @@
  */
 #include "graph.h"
 
-enum { OBJECTS = 3000, ROUNDS = 8, SIZES = 15, SMALL = 9, FEW = 20, PROCESSES = 4, PAIR = 8184 };
+enum { OBJECTS = 3000, ROUNDS = 8, SIZES = 15, SMALL = 9, FEW = 20, PROCESSES = 16, PAIR = 8184 };
 
 static const size_t sizes[SIZES] = {8, 24, 40, 56, 72, 104, 1000, 1016, 1032, 2040, 4000, 4088, PAIR, 8200, 100000}; /* in bdwgc at least a byte more, so one has two whole blocks */
 
@@ -35,7 +35,20 @@ static void note(void *object, void *cd)
 }
 
 static void **word_of(unsigned n, size_t word) { return (void **)objects[n] + word; }
-static size_t some_word(unsigned n) { return chance(2) ? 0 : chance((unsigned)(known[number[n]].size / sizeof(void *))); }
+
+/* The first word of an object, its last one, or any. */
+static size_t some_word(unsigned n)
+{
+    const unsigned words = (unsigned)(known[number[n]].size / sizeof(void *)), way = chance(4);
+
+    return way < 2 ? 0 : way == 2 ? chance(words) : words - 1;
+}
+
+/* Makes the link from an object, or tells that there is one. */
+static int make_link(unsigned n, void *target)
+{
+    return (links[n].is_long ? GC_register_long_link : GC_general_register_disappearing_link)(word_of(n, links[n].word), target);
+}
 
 /* In the place of each object that is gone there is a new one. Of some others the finalizer is removed, or given again. */
 APART static void make(void)
@@ -66,7 +79,7 @@ APART static void link_some(void)
             continue;
         links[n] = (struct link){some_word(n), number[other], true, chance(2)};
         *word_of(n, links[n].word) = objects[other];
-        wrong += (links[n].is_long ? GC_register_long_link : GC_general_register_disappearing_link)(word_of(n, links[n].word), objects[other]) != GC_SUCCESS;
+        wrong += make_link(n, objects[other]) != GC_SUCCESS;
     }
 }
 
@@ -104,7 +117,7 @@ APART static void drop(void)
         }
 }
 
-/* How many links there are. A word is cleared whose target is gone, unless something on the stack looks like it; and no other word is. */
+/* How many links there are. A word is cleared whose target is gone, unless something on the stack looks like it; no other word is, and its link stands. */
 APART static unsigned linked(unsigned *left)
 {
     unsigned count = 0;
@@ -115,7 +128,7 @@ APART static unsigned linked(unsigned *left)
 
         if (!links[n].is_there)
             continue;
-        wrong += !target->is_gone && *word_of(n, links[n].word) != (void *)~target->hidden;
+        wrong += !target->is_gone && (*word_of(n, links[n].word) != (void *)~target->hidden || make_link(n, (void *)~target->hidden) != GC_DUPLICATE);
         *left += target->is_gone && *word_of(n, links[n].word);
         links[n].is_there = *word_of(n, links[n].word) != NULL;
         count += links[n].is_there;

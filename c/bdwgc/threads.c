@@ -85,7 +85,8 @@ APART static void make_all(unsigned first)
 
     for (unsigned n = 0; n < each; n++) {
         last = make(first + n, last);
-        if (n % 16 == 0)
+        /* In the second half more entries wait than finalize.c reads at once as roots. */
+        if (n % (n < each / 2 ? 16 : 1024) == 0)
             GC_invoke_finalizers();
         while (__atomic_load_n(&collections, __ATOMIC_RELAXED) < (uint64_t)COLLECTIONS * n / each)
             usleep(50);

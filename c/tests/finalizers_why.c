@@ -1,6 +1,6 @@
-/* derrimas_finalizers_why and .._stuck: worked rows, their refusals, and small graphs of chance, with ephemerons, beside a plain reading of the header that shares no
- * code with the library: the reason, the path step by step, what waits for a ring, and what a pass then queues. Memory is refused at each allocation in turn. The
- * argument is how many graphs; else 20,000.
+/* derrimas_finalizers_why and .._stuck: refusals, worked rows, and small random graphs, with ephemerons. The rows and the graphs are compared with a plain reading of
+ * the header, which shares no code with the library: the reason, and of graphs the path step by step, what waits for a ring, and what a pass then queues. Memory is
+ * refused at each allocation in turn. The argument is how many graphs; else 20,000.
  */
 #include "check.h"
 #include "derrimas_finalizers.h"
@@ -156,9 +156,11 @@ static bool mark_value(void *data, uint64_t word)
     return true;
 }
 
-static void collect(heap *it)
+/* How many entries the pass queues. */
+static uint64_t collect(heap *it)
 {
     static const derrimas_host host = {is_marked, mark_children, mark, mark_alone, clear, holder_is_marked, NULL, NULL, mark_value};
+    derrimas_finalizers_passed passed = {0};
     uint64_t some[64], from;
     size_t count;
 
@@ -171,7 +173,8 @@ static void collect(heap *it)
             for (size_t n = 0; n < count; n++)
                 if (is_object(some[n], it))
                     mark_on(it, index_of(some[n]));
-    OK(derrimas_finalizers_pass(&it->finalizers, &host, it, NULL));
+    OK(derrimas_finalizers_pass(&it->finalizers, &host, it, &passed));
+    return passed.picked;
 }
 
 /* ---- worked rows */
@@ -190,12 +193,16 @@ static void registers(heap *it, unsigned object, derrimas_finalizers_kind kind, 
     OK(derrimas_finalizers_register(&it->finalizers, number(object), kind, 7, cd, 0, NULL, NULL));
 }
 
-/* The reason, and the path, by indices. */
+/* What the plain reading below says. */
+static derrimas_why_reason read_reason(const heap *it, unsigned object);
+
+/* The reason, which is that of the plain reading too, and the path, by indices. */
 #define WHY(it, object, wanted, ...)                                                                                   \
     do {                                                                                                               \
         const unsigned steps[] = {__VA_ARGS__ 99};                                                                     \
         OK(ask(it, object));                                                                                           \
         IS(answer.reason, wanted);                                                                                     \
+        IS(read_reason(it, object), wanted);                                                                           \
         IS(answer.length, sizeof steps / sizeof *steps - 1);                                                           \
         for (size_t n = 0; n + 1 < sizeof steps / sizeof *steps; n++)                                                  \
             IS(path[n], number(steps[n]));                                                                             \
@@ -210,6 +217,14 @@ static void registers(heap *it, unsigned object, derrimas_finalizers_kind kind, 
         for (size_t n = 0; n + 1 < sizeof objects / sizeof *objects; n++)                                              \
             IS(waiting[n], number(objects[n]));                                                                        \
     } while (0)
+
+/* A pass queues so many entries, and all objects are marked at its end. */
+static void collects(heap *it, uint64_t queued)
+{
+    IS(collect(it), queued);
+    for (unsigned n = 0; n < it->count; n++)
+        IS(it->marked[n], true);
+}
 
 #define FOUND_BY(wanted, which) (IS(answer.root, wanted), IS(answer.number, which))
 
@@ -229,7 +244,7 @@ static void chain(void)
     it.roots[2] = 0;
     WHY(&it, 0, DERRIMAS_WHY_READY, );
     WHY(&it, 1, DERRIMAS_WHY_WAITS, 0, 1, );
-    collect(&it);
+    collects(&it, 1);
     WHY(&it, 0, DERRIMAS_WHY_QUEUED, );
     IS(answer.entry.obj, number(0));
     IS(answer.entry.proc, 7);
@@ -245,19 +260,30 @@ static void chain(void)
     derrimas_finalizers_destroy(&it.finalizers);
 }
 
-static void rings(void)
+static void ring_of_one(void)
+{
+    heap it;
+
+    begin(&it, 1, 1);
+    it.child[0][0] = 1;
+    registers(&it, 0, DERRIMAS_FINALIZERS_NORMAL, 0);
+    WHY(&it, 0, DERRIMAS_WHY_RING, 0, 0, );
+    collects(&it, 0);
+    WHY(&it, 0, DERRIMAS_WHY_RING, 0, 0, );
+    registers(&it, 0, DERRIMAS_FINALIZERS_IGNORE_SELF, 0);
+    WHY(&it, 0, DERRIMAS_WHY_READY, );
+    derrimas_finalizers_destroy(&it.finalizers);
+}
+
+/* A ring of two, one of which is a no-order object. */
+static void ring_of_two(void)
 {
     heap it;
 
     begin(&it, 2, 2);
-    it.child[0][0] = 1;
-    registers(&it, 0, DERRIMAS_FINALIZERS_NORMAL, 0);
-    WHY(&it, 0, DERRIMAS_WHY_RING, 0, 0, );
-    registers(&it, 0, DERRIMAS_FINALIZERS_IGNORE_SELF, 0);
-    WHY(&it, 0, DERRIMAS_WHY_READY, );
-    registers(&it, 0, DERRIMAS_FINALIZERS_NORMAL, 0); /* a ring of two, the other of which isn't ordered by it */
     it.child[0][0] = 2;
     it.child[1][1] = 1;
+    registers(&it, 0, DERRIMAS_FINALIZERS_NORMAL, 0);
     registers(&it, 1, DERRIMAS_FINALIZERS_NO_ORDER, 0);
     WHY(&it, 0, DERRIMAS_WHY_RING, 0, 1, 0, );
     WHY(&it, 1, DERRIMAS_WHY_WAITS, 0, 1, );
@@ -356,6 +382,8 @@ static void cut(unsigned way)
     OK(derrimas_finalizers_link(&it.finalizers, DERRIMAS_FINALIZERS_SHORT, word_number(&it, 0, 1), number(1), NULL));
     WHY(&it, 1, DERRIMAS_WHY_READY, );
     WHY(&it, 0, DERRIMAS_WHY_WAITS, 1, 0, );
+    collects(&it, 1);
+    WHY(&it, 1, DERRIMAS_WHY_QUEUED, );
     derrimas_finalizers_destroy(&it.finalizers);
 }
 
@@ -371,6 +399,10 @@ static void kinds(void)
     WHY(&it, 1, DERRIMAS_WHY_READY, );
     registers(&it, 1, DERRIMAS_FINALIZERS_UNREACHABLE, 0); /* words of the other count towards it */
     WHY(&it, 1, DERRIMAS_WHY_WAITS, 0, 1, );
+    registers(&it, 1, DERRIMAS_FINALIZERS_NORMAL, 0);
+    collects(&it, 2);
+    WHY(&it, 0, DERRIMAS_WHY_QUEUED, );
+    WHY(&it, 1, DERRIMAS_WHY_QUEUED, );
     derrimas_finalizers_destroy(&it.finalizers);
 }
 
@@ -449,7 +481,7 @@ static void key_of_unreachable(void)
     WHY(&it, 2, DERRIMAS_WHY_READY, );
     registers(&it, 2, DERRIMAS_FINALIZERS_UNREACHABLE, 0);
     WHY(&it, 2, DERRIMAS_WHY_WAITS, 1, 2, );
-    collect(&it);
+    collects(&it, 1);
     WHY(&it, 1, DERRIMAS_WHY_QUEUED, );
     WHY(&it, 2, DERRIMAS_WHY_FOUND, 0, 2, ); /* the entry retains the key */
     derrimas_finalizers_destroy(&it.finalizers);
@@ -779,6 +811,13 @@ static derrimas_why_reason reason_of(const reading *r, const heap *it, unsigned 
     return held[object] ? DERRIMAS_WHY_WAITS : DERRIMAS_WHY_READY;
 }
 
+static derrimas_why_reason read_reason(const heap *it, unsigned object)
+{
+    const reading r = read_heap(it);
+
+    return reason_of(&r, it, object);
+}
+
 /* What never becomes ready where there are no ephemerons, however often what is ready goes; where there are, what the objects on rings hold together. */
 static void read_stuck(const reading *r, const heap *it, bool left[MOST])
 {
@@ -983,7 +1022,7 @@ static void look(heap *it)
         IS(answer.entry.obj, reason == DERRIMAS_WHY_QUEUED ? number(object) : 0);
     }
     look_for_stuck(it, &r);
-    collect(it);
+    (void)collect(it);
     for (unsigned object = 0; object < it->count; object++)
         if (r.is_registered[object])
             IS(!is_registered(it, object), ready[object]);
@@ -995,7 +1034,8 @@ int main(int count, char **arguments)
     derrimas_finalizers_entry entry;
 
     chain();
-    rings();
+    ring_of_one();
+    ring_of_two();
     behind_a_ring();
     data_of();
     held_data();
