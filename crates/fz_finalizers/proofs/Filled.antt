@@ -1,6 +1,6 @@
 -- A buffer that is filled from a list, one after another.
 use Rattle.std.proofs.Common.{◌≡◌, ◌≤◌, ◌<◌, ℕ, zero, suc, ◌+◌, min, List, [], ◌∷◌, length, take, drop, set, refl, sym, ap, subst, ◌∙◌, add-one, arith}
-use Rattle.std.proofs.lemmas.List.{length-drop}
+use Rattle.std.proofs.lemmas.List.{drop-drop, drop-set-lt, length-drop}
 
 -- the first of the list stand in the buffer, and the others are left
 pub record IsFilled {X : Type 0} (filled : ℕ) (words left buffer : List X) : Type 0 where
@@ -27,6 +27,10 @@ taken (suc n) (c ∷ cs) (y ∷ ys) rest x h left same =
     let heads : c ≡ y = cc in
     let rest_same = taken n cs ys rest x (omega (arith, h)) left tails in
     cc
+
+-- a word that is written leaves what lies behind it
+pub untouched : {X : Type 0} (n : ℕ) (x : X) (now before : List X) → drop n now ≡ drop n before → drop (n + 1) (set now n x) ≡ drop (n + 1) before
+untouched n x now before same = drop-set-lt (n + 1) now n x (omega arith) ∙ sym (drop-drop 1 n now) ∙ ap (drop 1) same ∙ drop-drop 1 n before
 
 module _ {X : Type 0} (words buffer : List X) where
   pub none_filled : IsFilled 0 words words buffer

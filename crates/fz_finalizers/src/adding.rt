@@ -45,6 +45,7 @@ impl Finalizers {
         ensures refused { OnErr result (self.new.state ≡ self.old.state) }
         ensures number { IfOk result (λ number. number ≡ self.old.next_number) }
         ensures follows { OnOk result (Follows self.old.state (AddCleanup object cleanup) self.new.state) }
+        ensures whole { self.new.memory.whole ≡ self.old.memory.whole }
         ensures memory { IsTrue self.old.memory.whole → self.new.memory ≡ self.old.memory }
         ensures room { Spends UsesEntry result self.old.rooms self.new.rooms }
     {

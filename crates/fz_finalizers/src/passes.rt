@@ -52,6 +52,7 @@ impl Finalizers {
         ensures refused { IfErr result (λ r. r ≡ Refused.NoMemory) }
         ensures wanting { OnErr result (HasRooms self.old.rooms registrations shorts longs → ⊥) }
         ensures same { self.new.state ≡ self.old.state }
+        ensures whole { self.new.memory.whole ≡ self.old.memory.whole }
         ensures memory { IsTrue self.old.memory.whole → self.new.memory ≡ self.old.memory }
         ensures kept { IsRoomier self.old.rooms self.new.rooms }
         ensures room { OnOk result (HasRooms self.new.rooms registrations shorts longs) }
@@ -94,6 +95,7 @@ impl Finalizers {
         ensures ephemerons { self.new.ephemerons ≡ self.old.ephemerons }
         ensures pass { result.pass ≡ next_pass self.old.passes }
         ensures picked { length self.new.queue ≡ length self.old.queue + result.picked }
+        ensures whole { self.new.memory.whole ≡ self.old.memory.whole }
         ensures memory { IsTrue self.old.memory.whole → KeepsWindow self.old.memory self.new.memory }
         // Marked objects stay marked, and everything that they reach is marked.
         ensures marks { (a : ℕ) → IsTrue (H.marked host.old a) → IsTrue (H.marked host.new a) }
@@ -129,6 +131,7 @@ impl Finalizers {
         ensures passes { PassesWhole H.is_exact H.place H.value self.old.state (H.objects host.old) (H.marked host.old) self.new.state (H.objects host.new) (H.marked host.new) }
         ensures pass { result.pass ≡ next_pass self.old.passes }
         ensures picked { length self.new.queue ≡ length self.old.queue + result.picked }
+        ensures whole { self.new.memory.whole ≡ self.old.memory.whole }
         ensures memory { IsTrue self.old.memory.whole → KeepsWindow self.old.memory self.new.memory }
         // Marked objects stay marked, and everything that they reach is marked.
         ensures marks { (a : ℕ) → IsTrue (H.marked host.old a) → IsTrue (H.marked host.new a) }
@@ -152,6 +155,7 @@ impl Finalizers {
         ensures passes { PassesFound H.is_exact H.place H.value self.old.state (H.objects host.old) (H.marked host.old) self.new.state (H.objects host.new) (H.marked host.new) }
         ensures pass { result.pass ≡ next_pass self.old.passes }
         ensures picked { length self.new.queue ≡ length self.old.queue + result.picked }
+        ensures whole { self.new.memory.whole ≡ self.old.memory.whole }
         ensures memory { IsTrue self.old.memory.whole → KeepsWindow self.old.memory self.new.memory }
         ensures marks { (a : ℕ) → IsTrue (H.marked host.old a) → IsTrue (H.marked host.new a) }
         ensures closed { IsClosed (H.objects host.new) (H.marked host.new) }
@@ -209,6 +213,7 @@ impl Finalizers {
         ensures ephemerons { self.new.ephemerons ≡ self.old.ephemerons }
         ensures pass { result.pass ≡ next_pass self.old.passes }
         ensures picked { length self.new.queue ≡ length self.old.queue + result.picked }
+        ensures whole { self.new.memory.whole ≡ self.old.memory.whole }
         ensures memory { IsTrue self.old.memory.whole → KeepsWindow self.old.memory self.new.memory }
         // Marked objects stay marked, and everything that they reach is marked.
         ensures marks { (a : ℕ) → IsTrue (H.marked host.old a) → IsTrue (H.marked host.new a) }
@@ -235,6 +240,7 @@ impl Finalizers {
         ensures follows { Follows self.old.state Pass self.new.state }
         ensures pass { result.pass ≡ next_pass self.old.passes }
         ensures picked { length self.new.queue ≡ length self.old.queue + result.picked }
+        ensures whole { self.new.memory.whole ≡ self.old.memory.whole }
         ensures memory { IsTrue self.old.memory.whole → KeepsWindow self.old.memory self.new.memory }
         ensures marks { (a : ℕ) → IsTrue (H.marked host.old a) → IsTrue (H.marked host.new a) }
         ensures closed { IsClosed (H.objects host.new) (H.marked host.new) }

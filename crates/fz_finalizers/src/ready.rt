@@ -111,6 +111,7 @@ impl Ready {
         ensures refused { IfErr result (λ r. r ≡ Refused.NoMemory) }
         ensures wanting { OnErr result (self.old.room < most) }
         ensures same { HasSameEntries self.old self.new }
+        ensures whole { self.new.memory.whole ≡ self.old.memory.whole }
         ensures memory { IsTrue self.old.memory.whole → self.new.memory ≡ self.old.memory }
         ensures kept { self.old.room ≤ self.new.room }
         ensures room { OnOk result (most ≤ self.new.room) }
@@ -126,6 +127,7 @@ impl Ready {
     /// Reuses the memory of finished entries, if there is no room for `most` further ones.
     fn forget_for(&mut self, most: usize)
         ensures same { HasSameEntries self.old self.new }
+        ensures whole { self.new.memory.whole ≡ self.old.memory.whole }
         ensures memory { IsTrue self.old.memory.whole → self.new.memory ≡ self.old.memory }
         ensures room { self.old.room ≤ self.new.room }
     {
@@ -137,6 +139,7 @@ impl Ready {
     /// Reuses the memory of finished entries, unless only `forget` may.
     pub(crate) fn reuse(&mut self)
         ensures same { HasSameEntries self.old self.new }
+        ensures whole { self.new.memory.whole ≡ self.old.memory.whole }
         ensures memory { IsTrue self.old.memory.whole → self.new.memory ≡ self.old.memory }
         ensures room { self.old.room ≤ self.new.room }
     {
@@ -185,6 +188,7 @@ impl Ready {
     pub(crate) fn shrink(&mut self, most: usize)
         requires { most ≤ self.old.room }
         ensures same { HasSameEntries self.old self.new }
+        ensures whole { self.new.memory.whole ≡ self.old.memory.whole }
         ensures memory { IsTrue self.old.memory.whole → self.new.memory ≡ self.old.memory }
         ensures room { most ≤ self.new.room }
     {

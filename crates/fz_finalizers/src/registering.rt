@@ -41,6 +41,7 @@ fn make_room(table: &Table, cleanups: usize, ready: &mut Ready, object: Addr) ->
     ensures fresh { OnErr result (get table.now.registrations object ≡ None) }
     ensures wanting { OnErr result (ready.old.room ≤ len table.now.registrations + cleanups) }
     ensures same { HasSameEntries ready.old ready.new }
+    ensures whole { ready.new.memory.whole ≡ ready.old.memory.whole }
     ensures memory { IsTrue ready.old.memory.whole → ready.new.memory ≡ ready.old.memory }
     ensures kept { ready.old.room ≤ ready.new.room }
     ensures room { OnOk result ((r : Registration) → len (insert table.now.registrations object r) + cleanups ≤ ready.new.room) }
@@ -74,6 +75,7 @@ pub(crate) fn register(
     ensures registered { OnOk result (table.new.registered ≡ record { registrations = insert table.old.registrations object (registration_of table.old.next_number (table_finalizer finalizer)); next_number = table.old.next_number + 1 }) }
     ensures late { OnOk result (table.new.late ≡ with_flag table.old.late object (is_late finalizer.kind)) }
     ensures same { HasSameEntries ready.old ready.new }
+    ensures whole { ready.new.memory.whole ≡ ready.old.memory.whole }
     ensures memory { IsTrue ready.old.memory.whole → ready.new.memory ≡ ready.old.memory }
     ensures kept { ready.old.room ≤ ready.new.room }
     ensures room { len table.new.registrations + cleanups ≤ ready.new.room }

@@ -31,6 +31,7 @@ impl Finalizers {
         ensures number { IfOk result (λ answer. answer.0 ≡ self.old.next_number) }
         ensures replaced { IfOk result (λ answer. answer.1 ≡ old_of self.old.registrations object) }
         ensures follows { OnOk result (Follows self.old.state (Register object finalizer) self.new.state) }
+        ensures whole { self.new.memory.whole ≡ self.old.memory.whole }
         ensures memory { IsTrue self.old.memory.whole → self.new.memory ≡ self.old.memory }
         ensures room { Spends UsesEntry result self.old.rooms self.new.rooms }
     {

@@ -89,6 +89,7 @@ impl<'a> Roots<'a> {
     pub fn fill(&mut self, buffer: &mut [u64], most: usize) -> usize
         ensures count { result ≡ min (min (length buffer.old) most) (length (somes self.old)) }
         ensures filled { take result buffer.new ≡ take result (somes self.old) }
+        ensures beyond { drop result buffer.new ≡ drop result buffer.old }
         ensures left { somes self.new ≡ drop result (somes self.old) }
         ensures rest { IsRest self.old self.new }
     {

@@ -11,6 +11,7 @@ impl Finalizers {
     pub fn shrink(&mut self)
         ensures state { self.new.state ≡ self.old.state }
         ensures order { KeepsTables self.old.order self.new.order }
+        ensures whole { self.new.memory.whole ≡ self.old.memory.whole }
         ensures memory { IsTrue self.old.memory.whole → self.new.memory ≡ self.old.memory }
     {
         self.table.shrink();

@@ -29,6 +29,7 @@ impl Finalizers {
     pub fn begin_pass(&mut self) -> u64
         ensures number { result ≡ next_pass self.old.passes }
         ensures follows { Follows self.old.state Begin self.new.state }
+        ensures whole { self.new.memory.whole ≡ self.old.memory.whole }
         ensures memory { IsTrue self.old.memory.whole → self.new.memory ≡ self.old.memory }
         ensures room { IsRoomier self.old.rooms self.new.rooms }
     {
