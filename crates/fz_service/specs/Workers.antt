@@ -1,6 +1,6 @@
 -- How workers change their seats.
 -- code: fz_service/src/worker_threads.rt, workers.rt
-use Rattle.std.specs.Prelude.{◌≡◌, ℕ, ◌+◌, ◌<◌, List, [], ◌∷◌, ◌++◌, length, map, slice_index_or, Option, Some, None, Bool, true, false}
+use Rattle.std.specs.Prelude.{◌≡◌, ℕ, ◌+◌, ◌<◌, List, [], ◌∷◌, ◌++◌, length, map, slice_get, slice_index_or, Option, Some, None, IsSomeAnd, Bool, true, false}
 use Rattle.fz_model.specs.declared.answers.Entry.{Entry}
 use Rattle.fz_line.specs.States.{SeatState, DutyState}
 
@@ -19,6 +19,10 @@ Serves duty seat false = seat ≡ record duty.seat { forfeited = duty.seat.forfe
 -- each has kept its position: the same seat, with what it took since
 abbrev pub ExtendEach : List SeatState → List SeatState → Type 0
 ExtendEach old new = (length new ≡ length old) × ((i : ℕ) (d : SeatState) → i < length old → Extends (slice_index_or old i d) (slice_index_or new i d))
+
+-- each of these is where it was, of the same size
+pub record KeepSizes {X : Type 0} (size : X → ℕ) (old new : List X) : Type 0 where
+  pub each : (i : ℕ) (x : X) → slice_get old i ≡ Some x → IsSomeAnd (slice_get new i) (λ y. size y ≡ size x)
 
 ---- how seats are sent to threads and back: means only
 

@@ -30,13 +30,20 @@ pub(crate) struct Bell {
 pub(crate) struct Rung {
     bell: Arc<Bell, Global>,
     pub(crate) entries: usize,
+    /// The same number. Only `new` and `ring` can write it, so nothing else changes `entries`.
+    seal: usize,
+    ghost sealed: { seal ≡ entries },
 }
 
 impl Rung {
     pub(crate) fn new(bell: Arc<Bell, Global>) -> Rung
         ensures { result.entries ≡ 0 }
     {
-        Rung { bell, entries: 0 }
+        Rung {
+            bell,
+            entries: 0,
+            seal: 0,
+        }
     }
 
     /// Wakes one sleeper for each entry that was sent since the last ring, as far as there are sleepers. `sent` is how many its owner has sent.
@@ -47,6 +54,7 @@ impl Rung {
     {
         self.bell.ring_for(sent - self.entries);
         self.entries = sent;
+        self.seal = sent;
     }
 }
 

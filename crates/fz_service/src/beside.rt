@@ -1,12 +1,13 @@
 //! Running a program while workers serve.
 
-ghost use Rattle.std.specs.Prelude.{◌≡◌, ◌++◌, ◌∷◌, [], IfOk, IfErr};
+ghost use Rattle.std.specs.Prelude.{◌≡◌, ◌++◌, ◌∷◌, [], length, None, IfErr, IfOk, IfSome, IsSomeAnd};
+ghost use Rattle.std.specs.Thread.{IsSend, IsSync};
 ghost use Rattle.fz_model.specs.Causes.{IsJudgedOrLacks, bad_count};
 ghost use Rattle.fz_model.specs.declared.limits.TheConstants.{MAX_WORKERS};
 ghost use Rattle.fz_model.specs.declared.refusal.Refusal.TheVariants.{NoMemory};
 ghost use Rattle.fz_world.specs.Does.{open_causes};
 ghost use Rattle.fz_service.specs.Ends.{IsEndOfSize};
-ghost use Rattle.fz_service.specs.Workers.{ExtendEach};
+ghost use Rattle.fz_service.specs.Workers.{ExtendEach, KeepSizes};
 
 use crate::bell::Stop;
 use crate::ending::Final;
@@ -38,33 +39,41 @@ impl<O: Opening> Service<O> {
         O: Send + Sync,
         requires { F.pre main }
         ensures seats { ExtendEach seats.items result.0.items }
+        // Each list is where it was, with as many procedures.
+        ensures lists { KeepSizes (λ list. length list.items) procs.old procs.new }
         ensures main { F.post main result.1 }
     {
         let stop = Stop::new(&self.bell);
         let alloc = *seats.allocator();
         let mut given = seats;
-        let slot = &mut given;
+        let mut program = Some(main);
+        let mut serve = || -> Vec<Seat<O>>
+            requires { IsSync G.row × IsSync R.row × IsSend O.row × IsSync O.row }
+            ensures { ExtendEach given.entry.items result.items × KeepSizes (λ list. length list.items) procs.entry.now procs.exit.now }
+        {
+            self.run_workers(
+                mem::replace(&mut given, Vec::new(alloc)),
+                procs,
+                gate,
+                stop.flag(),
+                rt,
+            )
+        };
+        let mut lead = || -> T
+            requires { IsSomeAnd program (λ main. F.pre main) }
+            ensures { IfSome program.entry (λ main. F.post main result) × (program.exit ≡ None) }
+        {
+            let Some(main) = mem::replace(&mut program, None) else {
+                unreachable!()
+            };
+            let answer = main();
+            stop.set();
+            answer
+        };
         // If no thread can be started, the first closure runs after the second. So the workers have to be the first one: in the other order they would wait
         // for ever.
-        let (back, answer) = thread::join(
-            rt,
-            || -> Vec<Seat<O>>
-                ensures { ExtendEach slot.entry.now.items result.items }
-            {
-                self.run_workers(
-                    mem::replace(slot, Vec::new(alloc)),
-                    procs,
-                    gate,
-                    stop.flag(),
-                    rt,
-                )
-            },
-            || {
-                let answer = main();
-                stop.set();
-                answer
-            },
-        );
+        let (back, answer) = thread::join_mut(rt, &mut serve, &mut lead);
+        let None = program else { unreachable!() };
         retire_all(given);
         (back, answer)
     }

@@ -30,9 +30,17 @@ impl Model for Diary {
 }
 
 /// Whether a worker has served its seat to the end. Only `Diary::served` makes one that says so.
-#[derive(Clone, Copy)]
+#[derive(Drop)]
 pub(crate) struct Served {
-    pub(crate) is_over: bool,
+    is_over: bool,
+}
+
+impl Model for Served {
+    ghost use Rattle.std.specs.Prelude.{Bool};
+
+    ghost Value = { Bool };
+
+    ghost view = { λ s. s.is_over };
 }
 
 impl Served {
@@ -83,7 +91,7 @@ impl Diary {
     /// The worker has read `stop` as true, and a later take, its last one, found the line empty.
     pub(crate) fn served(&self) -> Served
         requires { EndsWork self.now.events }
-        ensures { IsTrue result.is_over }
+        ensures { IsTrue result }
     {
         Served { is_over: true }
     }

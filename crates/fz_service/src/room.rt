@@ -101,9 +101,10 @@ impl Error for ServiceError {}
 fn of_opening(refusal: Refusal) -> ServiceError
     ensures { result ≡ refusal }
 {
-    ServiceError {
-        refusal,
-        no_room: Some(NoRoom(())),
+    if refusal == Refusal::NoMemory {
+        NoRoom(()).into()
+    } else {
+        ServiceError::of(refusal)
     }
 }
 

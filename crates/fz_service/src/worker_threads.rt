@@ -2,7 +2,7 @@
 
 ghost use Rattle.std.specs.Prelude.{◌≡◌, ◌≢◌, ℕ, ◌<◌, ◌≤◌, [], ◌∷◌, ◌++◌, None, Some, IsSome, IsSomeAnd, IsTrue, length, map, slice_get, slice_index_or, vec_capacity};
 ghost use Rattle.fz_service.specs.declared.event.Event.TheVariants.{Told, Listened, FoundEmpty};
-ghost use Rattle.fz_service.specs.Workers.{Extends, ExtendEach, SlotExtends, slots_of, in_slots};
+ghost use Rattle.fz_service.specs.Workers.{Extends, ExtendEach, KeepSizes, SlotExtends, slots_of, in_slots};
 ghost use Rattle.fz_service.specs.Diary.{Gains, RunsEach, EndsWith, EndsWork};
 ghost use Rattle.fz_service.specs.Waits.{HasListened, HasLooked, RunsNone};
 
@@ -134,7 +134,7 @@ impl<O: Opening> Worker<O, List> {
         rt: &R,
     )
         ensures slot { SlotExtends self.old.slot self.new.slot }
-        ensures served { IsSome self.old.slot → IsTrue self.new.served.is_over }
+        ensures served { IsSome self.old.slot → IsTrue self.new.served }
         ensures list { length self.new.procs.items ≡ length self.old.procs.items }
     {
         if let Some(seat) = mem::replace(&mut self.slot, None) {
@@ -325,7 +325,7 @@ impl<O: Opening> Service<O> {
         O: Send + Sync,
         ensures len { length workers.new.items ≡ length workers.old.items }
         ensures each { (i : ℕ) (d : _) → i < length workers.old.items → SlotExtends (slice_index_or workers.old.items i d).slot (slice_index_or workers.new.items i d).slot }
-        ensures served { (i : ℕ) (d : _) → i < length workers.old.items → IsSome (slice_index_or workers.old.items i d).slot → IsTrue (slice_index_or workers.new.items i d).served.is_over }
+        ensures served { (i : ℕ) (d : _) → i < length workers.old.items → IsSome (slice_index_or workers.old.items i d).slot → IsTrue (slice_index_or workers.new.items i d).served }
         ensures lists { (i : ℕ) (d : _) → i < length workers.old.items → length (slice_index_or workers.new.items i d).procs.items ≡ length (slice_index_or workers.old.items i d).procs.items }
     {
         let threads = workers.len();
@@ -334,7 +334,7 @@ impl<O: Opening> Service<O> {
         }
         let serve = |_: usize, worker: &mut Worker<O, List>|
             ensures slot { SlotExtends worker.old.slot worker.new.slot }
-            ensures served { IsSome worker.old.slot → IsTrue worker.new.served.is_over }
+            ensures served { IsSome worker.old.slot → IsTrue worker.new.served }
             ensures list { length worker.new.procs.items ≡ length worker.old.procs.items }
         { worker.serve_from_slot(self, gate, stop, rt) };
         thread::for_each_mut(rt, workers.as_mut_slice(), threads, &serve);
@@ -360,7 +360,7 @@ impl<O: Opening> Service<O> {
         O: Send + Sync,
         ensures seats { ExtendEach seats.items result.items }
         // Each list is where it was, with as many procedures.
-        ensures lists { (i : ℕ) (list : _) → slice_get procs.old i ≡ Some list → IsSomeAnd (slice_get procs.new i) (λ back. length back.items ≡ length list.items) }
+        ensures lists { KeepSizes (λ list. length list.items) procs.old procs.new }
     {
         let alloc = *seats.allocator();
         let Ok(room) = Vec::with_capacity(alloc, seats.len()) else {

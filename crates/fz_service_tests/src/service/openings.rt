@@ -16,7 +16,7 @@ use std::thread::Threads;
 /// The powers of two up to the largest number of blocks.
 const POWERS: [u64; 13] = [1, 2, 4, 8, 16, 32, 64, 128, 256, 512, 1_024, 2_048, 4_096];
 
-/// Opens and ends a service of this size. One outside of the limits is refused.
+/// Opens and ends a service of this size. One outside of the limits is refused, by an error that prints as its refusal.
 fn opens<R: Abort + Alloc<A = Global>>(rt: &R, config: Config, workers: u64) {
     match Service::prepare(rt.alloc(), config, workers) {
         Ok(prepared) => opens_with_seats::<Brand>(rt, prepared, workers),
@@ -24,6 +24,13 @@ fn opens<R: Abort + Alloc<A = Global>>(rt: &R, config: Config, workers: u64) {
             let is_within = 0 < config.blocks && config.blocks <= MAX_BLOCKS;
             same(rt, "a size within the limits", is_within, false);
             same(rt, "the refusal", error.refusal(), Refusal::BadCount);
+            let text = format!(in rt.alloc(); "{error}").expect(rt, "memory");
+            same(
+                rt,
+                "its text",
+                text.as_str(),
+                "a count is outside its limits",
+            );
         }
     }
 }
@@ -76,9 +83,10 @@ fn runs<R: Abort + Threads + Wait + Sync + Alloc<A = Global>>(
 #[test]
 fn programs_run_with_services_of_all_sizes(rt: HostRuntime) {
     for blocks in POWERS {
-        for workers in 1..=MAX_WORKERS {
-            let frames = workers.min(MAX_FRAMES);
-            runs(&rt, Config { blocks, frames }, workers);
+        for frames in 1..=MAX_FRAMES {
+            for workers in 1..=MAX_WORKERS {
+                runs(&rt, Config { blocks, frames }, workers);
+            }
         }
     }
 }
