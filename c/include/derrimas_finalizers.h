@@ -547,9 +547,10 @@ derrimas_finalizers_code derrimas_finalizers_cleanups(const derrimas_finalizers 
  * steps of objects of other kinds count. Words and ephemerons count as they are once a pass has cleared those of short
  * links and short ephemerons whose targets and keys aren't found. */
 typedef enum derrimas_why_reason {
-    DERRIMAS_WHY_UNREGISTERED = 0, /* it has no finalizer, and no entry */
+    DERRIMAS_WHY_UNREGISTERED = 0, /* it has no finalizer and no entry, and if it has cleanups, it is unreachable */
     DERRIMAS_WHY_QUEUED = 1,       /* its entry waits or is held */
-    DERRIMAS_WHY_FOUND = 2,        /* it is reachable: the path goes from the object to which the root points to it */
+    DERRIMAS_WHY_FOUND = 2,        /* it is reachable, and has a finalizer, or cleanups and no entry: the path goes from
+                                    * the object to which the root points to it */
     DERRIMAS_WHY_WAITS = 3,        /* it is unreachable and on no ring: the path goes from another such object with a
                                     * finalizer, by a first step, to it, and that one comes first */
     DERRIMAS_WHY_RING = 4,         /* it is unreachable: the path goes from it, by a first step, back to it, so no pass

@@ -341,6 +341,11 @@ static void data_of(void)
     OK(derrimas_finalizers_add_cleanup(&it.finalizers, number(1), DERRIMAS_FINALIZERS_LONG, 7, number(0), 0, &cleanup));
     WHY(&it, 0, DERRIMAS_WHY_FOUND, 0, );
     FOUND_BY(DERRIMAS_WHY_CLEANUP_DATA, cleanup);
+    WHY(&it, 1, DERRIMAS_WHY_UNREGISTERED, ); /* no root reaches it, and the cleanup alone is its */
+    it.roots[2] = 2;
+    WHY(&it, 1, DERRIMAS_WHY_FOUND, 1, );
+    FOUND_BY(DERRIMAS_WHY_HOST_ROOT, 2);
+    it.roots[2] = 0;
     OK(derrimas_finalizers_cancel(&it.finalizers, cleanup, NULL));
     registers(&it, 1, DERRIMAS_FINALIZERS_NO_ORDER, number(0)); /* its entry holds its data */
     OK(derrimas_finalizers_queue_all(&it.finalizers, NULL));
@@ -797,12 +802,27 @@ static bool has_entry(const heap *it, unsigned object)
     return false;
 }
 
+static bool has_cleanup(const heap *it, unsigned object)
+{
+    derrimas_finalizers_cleanup_at cleanup;
+    uint64_t from = 0;
+    size_t count;
+
+    while (derrimas_finalizers_cleanups(&it->finalizers, &from, &cleanup, 1, &count) == DERRIMAS_FINALIZERS_OK)
+        if (cleanup.object == number(object))
+            return true;
+    return false;
+}
+
 static derrimas_why_reason reason_of(const reading *r, const heap *it, unsigned object)
 {
     bool held[MOST];
 
-    if (!r->is_registered[object])
-        return has_entry(it, object) ? DERRIMAS_WHY_QUEUED : DERRIMAS_WHY_UNREGISTERED;
+    if (!r->is_registered[object]) {
+        if (has_entry(it, object))
+            return DERRIMAS_WHY_QUEUED;
+        return r->found[object] && has_cleanup(it, object) ? DERRIMAS_WHY_FOUND : DERRIMAS_WHY_UNREGISTERED;
+    }
     if (r->found[object])
         return DERRIMAS_WHY_FOUND;
     if (is_on_ring(r, object))

@@ -97,7 +97,7 @@ module _ (place : ℕ → Option ℕ) (value : Map Object → ℕ → Option ℕ
 
 module _ (place : ℕ → Option ℕ) (value : Map Object → ℕ → Option ℕ) (objects : Map Object) (roots : List ℕ) (s : State) (o : ℕ) where
   told : (reason : Reason) → IsToldOf place value objects roots s reason o → StandsBy place value objects roots s reason o
-  told Unregistered h = λ r is. none-some r (sym h.0 ∙ is)
+  told Unregistered h = λ r is. none-some r (sym h.0.0 ∙ is)
   told (Queued entry) h = λ r is. none-some r (sym h.0 ∙ is)
   told (Found root path) h =
       holds_path place value objects (IsOfKey s.ephemerons) (IsAtRoot objects roots s) h.1.first h.1.rest o (Member (root, h.1.rooted)) h.1.leads

@@ -137,11 +137,20 @@ WithFound place value objects roots s IsTrueOf = (found : ℕ → Bool) × Compu
 abbrev pub ListsStuck : (ℕ → Option ℕ) → (Map Object → ℕ → Option ℕ) → Map Object → List ℕ → State → List (ℕ × Registration) → List ℕ → Type 0
 ListsStuck place value objects roots s registrations stuck = WithFound place value objects roots s (λ found. AreStuck place value objects s found registrations stuck)
 
+-- it has a cleanup
+abbrev pub HasCleanup : State → ℕ → Type 0
+HasCleanup s o = (number : ℕ) × (c : Attached) × (get s.cleanups number ≡ Some c) × (c.object ≡ o)
+
+-- it has neither a finalizer nor an unfinished entry
+abbrev pub HasNoFinalizer : State → ℕ → Type 0
+HasNoFinalizer s o = (get s.registrations o ≡ None) × ((e : Entry) → Contains (unfinished s) e → e.obj ≢ o)
+
 -- the result is true of the object, and its path shows it
 abbrev pub IsToldOf : (ℕ → Option ℕ) → (Map Object → ℕ → Option ℕ) → Map Object → List ℕ → State → Reason → ℕ → Type 0
-IsToldOf place value objects roots s Unregistered o = (get s.registrations o ≡ None) × ((e : Entry) → Contains (unfinished s) e → e.obj ≢ o)
+IsToldOf place value objects roots s Unregistered o = HasNoFinalizer s o × (HasCleanup s o → IsReached place value objects roots s o → ⊥)
 IsToldOf place value objects roots s (Queued entry) o = (get s.registrations o ≡ None) × Contains (unfinished s) entry × (entry.obj ≡ o)
-IsToldOf place value objects roots s (Found root path) o = ((r : Registration) × (get s.registrations o ≡ Some r)) × IsRootPath place value objects roots s root path.items o
+IsToldOf place value objects roots s (Found root path) o =
+    (((r : Registration) × (get s.registrations o ≡ Some r)) ⊎ (HasNoFinalizer s o × HasCleanup s o)) × IsRootPath place value objects roots s root path.items o
 IsToldOf place value objects roots s (Ring path) o = WithFound place value objects roots s (λ found. IsRing place value objects s found path.items o)
 IsToldOf place value objects roots s (Waits path) o = WithFound place value objects roots s (λ found. IsWaiting place value objects s found path.items o)
 IsToldOf place value objects roots s Ready o = WithFound place value objects roots s (λ found. IsReady place value objects s found o)

@@ -1,14 +1,13 @@
 //! Why an object isn't finalized.
 
-ghost use Rattle.std.specs.Prelude.{◌≡◌, ◌≢◌, ℕ, List, false, Contains, IfOk, MatchOption, Option, None, Some};
+ghost use Rattle.std.specs.Prelude.{◌≡◌, ◌≢◌, false, Contains, IfOk, IsFalse, IsTrue, MatchOption, None, Some};
 ghost use Rattle.std.specs.FinMap.{get};
 ghost use Rattle.fz_model.specs.declared.answers.Entry.{Entry};
 ghost use Rattle.fz_model.specs.Memory.{points};
-ghost use Rattle.fz_model.specs.State.{Map, Object};
 ghost use Rattle.fz_model.specs.Reachability.{Computes};
 ghost use Rattle.fz_pass.specs.Marks.{AreRegistered, AreTargets};
 ghost use Rattle.fz_finalizers.specs.States.{unfinished};
-ghost use Rattle.fz_why.specs.Why.{IsReached, IsToldOf, IsUnfound};
+ghost use Rattle.fz_why.specs.Why.{HasCleanup, IsReached, IsToldOf, IsUnfound};
 ghost use Rattle.fz_why.specs.Trail.{has, IsOfRoots, IsOrdered, IsSound, IsTrailPath};
 
 use crate::origin::Origin;
@@ -115,18 +114,44 @@ fn why_registered<H: Paths>(
     Ok(reason)
 }
 
-/// Why an object that isn't registered isn't finalized.
-fn why_unregistered(finalizers: &Finalizers, object: Addr) -> Reason
-    requires { get finalizers.now.state.registrations object ≡ None }
-    ensures { (place : ℕ → Option ℕ) (value : Map Object → ℕ → Option ℕ) (objects : Map Object) (roots : List ℕ) → IsToldOf place value objects roots finalizers.now.state result object }
+/// Whether an object has a cleanup.
+fn has_cleanup(finalizers: &Finalizers, object: Addr) -> bool
+    ensures some { IsTrue result → HasCleanup finalizers.now.state object }
+    ensures none { IsFalse result → HasCleanup finalizers.now.state object → ⊥ }
 {
-    match entry_of(finalizers, object) {
-        Some(entry) => Reason::Queued(entry),
-        None => Reason::Unregistered,
+    for each in finalizers.iter_cleanups() {
+        if each.1.object == object {
+            return true;
+        }
+    }
+    false
+}
+
+/// Why an object that isn't registered isn't finalized, or isn't gone if it has cleanups.
+fn why_unregistered<H: Paths>(
+    alloc: Global,
+    finalizers: &Finalizers,
+    host: &H,
+    object: Addr,
+) -> Result<Reason, NoMemory>
+    requires { get finalizers.now.state.registrations object ≡ None }
+    ensures told { IfOk result (λ reason. IsToldOf (H.place host.now) (H.value host.now) (H.objects host.now) (H.roots host.now) finalizers.now.state reason object) }
+{
+    if let Some(entry) = entry_of(finalizers, object) {
+        return Ok(Reason::Queued(entry));
+    }
+    if !has_cleanup(finalizers, object) {
+        return Ok(Reason::Unregistered);
+    }
+    let found = find(alloc, finalizers, host)?;
+    let rooted = root_path(alloc, &found, object)?;
+    match rooted {
+        Some((root, path)) => Ok(Reason::Found(root, path)),
+        None => Ok(Reason::Unregistered),
     }
 }
 
-/// Why an object isn't finalized, with a path as evidence. It may be called at any time outside of a pass, and nothing has to be marked.
+/// Why an object isn't finalized, or why an object isn't gone that has cleanups alone, with a path as evidence. It may be called at any time outside of a pass, and nothing has to be marked.
 ///
 /// Words are as they are once a pass has cleared those of dead short links and of short ephemerons whose keys aren't found. Values of ephemerons count as they
 /// do in a pass. The host has to ensure that registered objects, the targets of links and the keys of ephemerons are its objects.
@@ -153,6 +178,9 @@ pub fn why<H: Paths>(
             let reason = why_registered(alloc, finalizers, host, object, registration)?;
             Ok(reason)
         }
-        None => Ok(why_unregistered(finalizers, object)),
+        None => {
+            let reason = why_unregistered(alloc, finalizers, host, object)?;
+            Ok(reason)
+        }
     }
 }

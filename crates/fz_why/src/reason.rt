@@ -21,11 +21,11 @@ pub enum RootOf {
 /// before is the ephemeron's key, or the object that contains its word, and the other of these two is retained by the same roots or objects.
 #[derive(Debug, Drop)]
 pub enum Reason {
-    /// It has no finalizer, and no entry.
+    /// It has no finalizer and no entry, and if it has cleanups, no root reaches it.
     Unregistered,
     /// Its entry waits or is held.
     Queued(Entry),
-    /// It is reachable. The path begins at the object to which the root points, and ends at the object.
+    /// It is reachable, and has a finalizer, or no entry and cleanups alone. The path begins at the object to which the root points, and ends at the object.
     Found(RootOf, Vec<Addr>),
     /// It is unreachable, and a path leads from the object back to itself. The path begins and ends with the object, and its first step is one that the
     /// object's kind counts. Keys on which the path depends are reachable, or reached by the object's first steps.

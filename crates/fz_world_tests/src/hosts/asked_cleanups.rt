@@ -12,11 +12,13 @@ use std::alloc::Global;
 use std::process::Abort;
 use std::test::*;
 
-/// A graph, its objects and its roots in the order in which they were made, and the entries that were taken and not finished.
+/// A graph, its objects and its roots in the order in which they were made, the objects that were given a finalizer or a cleanup, and the entries that were taken and
+/// not finished.
 #[derive(Drop)]
 struct Objects {
     asked: Asked,
     ids: Vec<u64>,
+    furnished: Vec<u64>,
     roots: Vec<u64>,
     taken: Vec<Entry>,
 }
@@ -26,6 +28,7 @@ fn objects_of(rt: &impl Abort, alloc: Global) -> Objects {
     Objects {
         asked: Asked::new(rt, alloc),
         ids: Vec::new(alloc),
+        furnished: Vec::new(alloc),
         roots: Vec::new(alloc),
         taken: Vec::new(alloc),
     }
@@ -55,6 +58,16 @@ fn register(rt: &impl Abort, objects: &mut Objects, object: usize, procedure: u6
     };
     let number = number_of(rt, objects, Some(object));
     objects.asked.register(rt, number, finalizer);
+    push(rt, &mut objects.furnished, number);
+}
+
+/// Keeps all that was given a finalizer or a cleanup and still exists.
+fn close(objects: &mut Objects) {
+    for number in objects.furnished.iter().copied() {
+        if objects.asked.stands(number) {
+            objects.asked.add_root(number);
+        }
+    }
 }
 
 /// Makes an object a root.
@@ -96,7 +109,9 @@ fn change(rt: &impl Abort, objects: &mut Objects, step: Step) {
             };
             let number = number_of(rt, objects, Some(object));
             objects.asked.add_cleanup(rt, number, cleanup);
+            push(rt, &mut objects.furnished, number);
         }
+        Step::Close => close(objects),
         Step::Root(object) => root(rt, objects, object),
         Step::Unroot => {
             let last = objects.roots.pop().expect(rt, "a root");

@@ -27,6 +27,8 @@ pub(crate) enum Step {
     /// Makes a record a root, and removes the last root.
     Root(usize),
     Unroot,
+    /// The program ends: from now on all records that have a finalizer or a cleanup are roots.
+    Close,
     /// A collection, and how many entries it queues.
     Collect(u64),
     /// Takes the next entry: its procedure, its number, and its record if it has one.
@@ -37,11 +39,12 @@ pub(crate) enum Step {
     Stands(usize, bool),
 }
 
-/// A heap, its records by number, and the entries that were taken and not finished.
+/// A heap, its records by number, those that were given a finalizer or a cleanup, and the entries that were taken and not finished.
 #[derive(Drop)]
 pub(crate) struct Records {
     runtime: Runtime,
     ids: Vec<RecordId>,
+    furnished: Vec<RecordId>,
     taken: Vec<Entry>,
 }
 
@@ -50,6 +53,7 @@ fn heap_of(rt: &impl Abort, alloc: Global) -> Records {
     Records {
         runtime: Runtime::new(alloc, 16).expect(rt, "a runtime"),
         ids: Vec::new(alloc),
+        furnished: Vec::new(alloc),
         taken: Vec::new(alloc),
     }
 }
@@ -87,6 +91,7 @@ fn register(rt: &impl Abort, records: &mut Records, record: usize, procedure: u6
             .runtime
             .register(id, finalizer)
             .expect(rt, "a finalizer");
+        push(rt, &mut records.furnished, id);
     }
 }
 
@@ -112,6 +117,16 @@ fn attach(rt: &impl Abort, records: &mut Records, record: usize, cleanup: Cleanu
             .runtime
             .add_cleanup(id, cleanup)
             .expect(rt, "a cleanup");
+        push(rt, &mut records.furnished, id);
+    }
+}
+
+/// Keeps all that was given a finalizer or a cleanup and still exists.
+fn close(rt: &impl Abort, records: &mut Records) {
+    for id in records.furnished.iter().copied() {
+        if records.runtime.heap().stands(id) {
+            records.runtime.add_root(id).expect(rt, "memory");
+        }
     }
 }
 
@@ -164,6 +179,7 @@ fn carry_out(rt: &impl Abort, records: &mut Records, step: Step) {
         Step::Unroot => {
             let _ = records.runtime.pop_root();
         }
+        Step::Close => close(rt, records),
         Step::Collect(picked) => {
             must_be(rt, records.runtime.collect().picked, picked, "picked");
         }
@@ -251,6 +267,25 @@ const BROUGHT_BACK: [Step; 16] = [
     Step::Take(2, 1, None),
 ];
 
+/// Once the program has ended, nothing is queued, and no record that has a finalizer or a cleanup is reclaimed, so none is made at its address.
+const CLOSED: [Step; 15] = [
+    Step::Make,
+    Step::Make,
+    Step::Make,
+    Step::Attach(0, Short, 1, None, 0),
+    Step::Attach(1, Long, 2, None, 0),
+    Step::Register(2, 7),
+    Step::Make,
+    Step::Close,
+    Step::Collect(0),
+    Step::Stands(0, true),
+    Step::Stands(1, true),
+    Step::Stands(2, true),
+    Step::Stands(3, false),
+    Step::Collect(0),
+    Step::Cancel(0, true),
+];
+
 /// The order is by rank, then number, whichever the objects.
 const NUMBERS_AND_RANKS: [Step; 12] = [
     Step::Make,
@@ -268,11 +303,12 @@ const NUMBERS_AND_RANKS: [Step; 12] = [
 ];
 
 /// The worked rows.
-pub(crate) const ROWS: [&[Step]; 5] = [
+pub(crate) const ROWS: [&[Step]; 6] = [
     &TWO_OF_ONE_OBJECT,
     &SHORT_BEFORE_AND_LONG_AFTER_A_FINALIZER,
     &DATA_LEADS_TO_THE_OBJECT,
     &BROUGHT_BACK,
+    &CLOSED,
     &NUMBERS_AND_RANKS,
 ];
 

@@ -1,3 +1,4 @@
+use Rattle.std.proofs.Common.{inl}
 use Rattle.fz_why.proofs.Holding.{unfound}
 use Rattle.fz_why.proofs.Told.{root_begins, root_ordered, computes, root_told}
 use Rattle.fz_why.proofs.asking.why_registered.Goals as goal
@@ -13,7 +14,7 @@ root_path-requires-clause-rooted g c =
 pub returns-in-Some : goal.returns-in-Some
 returns-in-Some g c = record {
   told = (
-    (c.args.registration, c.requires.registered),
+    inl (c.args.registration, c.requires.registered),
     root_told (g.H.Paths.place c.args.host.now) (g.H.Paths.value c.args.host.now) (g.H.Paths.objects c.args.host.now) (g.H.Paths.roots c.args.host.now) c.args.finalizers.now.state c.in_ok-found.found c.in_ok-found.ensures.found c.args.object c.in-Some.root
         c.in-Some.path.items (rw c.in-Some.is at c.in_ok-rooted.ensures.path),
   );

@@ -19,6 +19,8 @@ pub(crate) struct Plain {
     pub(crate) rows: Vec<(LinkKind, usize, usize, usize, usize)>,
     /// Kinds and client data of the registered records.
     pub(crate) registered: Vec<(usize, Kind, Option<usize>)>,
+    /// Short cleanups: record and client data of each.
+    pub(crate) attached: Vec<(usize, Option<usize>)>,
     pub(crate) roots: Vec<usize>,
 }
 
@@ -73,6 +75,15 @@ fn draw_finalizer(rt: &impl Abort, plain: &mut Plain, record: usize, random: &mu
     }
 }
 
+/// Draws whether a record has a cleanup, and its client data.
+fn draw_cleanup(rt: &impl Abort, plain: &mut Plain, record: usize, random: &mut Random) {
+    let other = any(random);
+    let data = (random.below(6) == 0).then_some(other);
+    if random.below(3) == 0 {
+        push(rt, &mut plain.attached, (record, data));
+    }
+}
+
 /// A random graph.
 pub(crate) fn drawn(rt: &impl Abort, alloc: Global, random: &mut Random) -> Plain {
     let mut plain = Plain {
@@ -80,6 +91,7 @@ pub(crate) fn drawn(rt: &impl Abort, alloc: Global, random: &mut Random) -> Plai
         links: Vec::new(alloc),
         rows: Vec::new(alloc),
         registered: Vec::new(alloc),
+        attached: Vec::new(alloc),
         roots: Vec::new(alloc),
     };
     let has_rows = random.below(3) > 0;
@@ -88,6 +100,7 @@ pub(crate) fn drawn(rt: &impl Abort, alloc: Global, random: &mut Random) -> Plai
         draw_field(rt, &mut plain, record, 1, random);
         draw_row(rt, &mut plain, has_rows, record, random);
         draw_finalizer(rt, &mut plain, record, random);
+        draw_cleanup(rt, &mut plain, record, random);
         if random.below(6) == 0 {
             push(rt, &mut plain.roots, record);
         }
@@ -110,6 +123,9 @@ pub(crate) fn built(rt: &impl Abort, alloc: Global, plain: &Plain) -> Records {
     }
     for (record, kind, data) in plain.registered.iter() {
         carry_out(rt, &mut all, Step::Register(*record, *kind, *data));
+    }
+    for (record, data) in plain.attached.iter() {
+        carry_out(rt, &mut all, Step::Attach(*record, LinkKind::Short, *data));
     }
     for record in plain.roots.iter() {
         carry_out(rt, &mut all, Step::Root(*record));

@@ -74,6 +74,11 @@ pub(crate) fn reached(plain: &Plain) -> [bool; COUNT] {
             set(&mut starts, *record);
         }
     }
+    for (_, data) in plain.attached.iter() {
+        if let Some(record) = data {
+            set(&mut starts, *record);
+        }
+    }
     spread(plain, None, starts)
 }
 
@@ -130,6 +135,14 @@ pub(crate) fn held_toward(plain: &Plain, found: &[bool; COUNT], kind: Kind) -> [
         }
     }
     spread(plain, Some(found), starts)
+}
+
+/// What a plain reading tells of a record that has a cleanup and no finalizer, with root 0 in place of any.
+pub(crate) fn read_attached(found: &[bool; COUNT], record: usize) -> Told {
+    if has(found, record) {
+        return Told::Found(RootOf::Host(0));
+    }
+    Told::Unregistered
 }
 
 /// What a plain reading tells of a registered record, with root 0 in place of any.

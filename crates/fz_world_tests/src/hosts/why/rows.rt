@@ -3,6 +3,8 @@
 use crate::hosts::why::steps::{Step, Told, carry_out, heap_of};
 use fz_finalizers::{Kind, LinkKind};
 use fz_why::RootOf;
+use std::alloc::Global;
+use std::process::Abort;
 use std::test::*;
 
 const NORMAL: Kind = Kind::Normal;
@@ -170,7 +172,32 @@ const AN_UNREACHABLE_ONE_WAITS_FOR_ITS_KEY: [Step; 8] = [
     Step::Tells(2, Told::Waits, &[1, 2]),
 ];
 
-const ROWS: [&[Step]; 13] = [
+/// The client data of a cleanup reaches the record that has it, and no finalizer.
+const DATA_OF_A_CLEANUP_RETAINS: [Step; 8] = [
+    Step::Refer(1, 0, 0),
+    Step::Attach(0, LinkKind::Long, Some(1)),
+    Step::Collect(0),
+    Step::Tells(0, Told::Found(RootOf::CleanupData(0)), &[1, 0]),
+    Step::Tells(1, Told::Unregistered, &[]),
+    Step::Cancel(0),
+    Step::Tells(0, Told::Unregistered, &[]),
+    Step::Collect(0),
+];
+
+/// A record that has a cleanup is told as one that has nothing, unless it is reachable or has a finalizer.
+const CLEANUPS_AND_A_FINALIZER: [Step; 9] = [
+    Step::Attach(0, LinkKind::Short, None),
+    Step::Tells(0, Told::Unregistered, &[]),
+    Step::Root(0),
+    Step::Tells(0, Told::Found(RootOf::Host(0)), &[0]),
+    Step::Register(0, NORMAL, None),
+    Step::Unroot,
+    Step::Tells(0, Told::Ready, &[]),
+    Step::Collect(2),
+    Step::Tells(0, Told::Queued(1), &[]),
+];
+
+const ROWS: [&[Step]; 15] = [
     &A_CHILD_WAITS_FOR_ITS_PARENT,
     &A_RING_OF_ONE_MAY_BE_IGNORED,
     &OWN_CLIENT_DATA_RETAINS,
@@ -184,15 +211,21 @@ const ROWS: [&[Step]; 13] = [
     &TWO_HOLD_A_VALUE_BACK,
     &ANOTHER_REACHES_THE_KEY,
     &AN_UNREACHABLE_ONE_WAITS_FOR_ITS_KEY,
+    &DATA_OF_A_CLEANUP_RETAINS,
+    &CLEANUPS_AND_A_FINALIZER,
 ];
 
-/// The steps of each row are carried out in a new heap of five records.
+/// The steps of a row are carried out in a new heap of five records.
+fn carry_out_all(rt: &impl Abort, alloc: Global, steps: &[Step]) {
+    let mut all = heap_of(rt, alloc, 5);
+    for step in steps {
+        carry_out(rt, &mut all, *step);
+    }
+}
+
 #[test]
 fn reasons_of_worked_rows(rt: HostRuntime) {
     for steps in ROWS {
-        let mut all = heap_of(&rt, rt.alloc(), 5);
-        for step in steps {
-            carry_out(&rt, &mut all, *step);
-        }
+        carry_out_all(&rt, rt.alloc(), steps);
     }
 }

@@ -1,7 +1,7 @@
 //! Steps on a heap of records. Some ask why a record isn't finalized.
 
 use crate::equal::{at, must_be};
-use fz_finalizers::{Finalizer, Kind, LinkKind};
+use fz_finalizers::{Cleanup, Finalizer, Kind, LinkKind};
 use fz_model::Addr;
 use fz_why::{Reason, RootOf};
 use own_heap::Field::{Hidden, Nothing, Reference};
@@ -20,6 +20,10 @@ pub(crate) enum Step {
     Keyed(LinkKind, usize, usize, usize),
     /// Registers a record of a kind, with another as its client data if it has any.
     Register(usize, Kind, Option<usize>),
+    /// Adds a cleanup to a record, with another record as its client data if it has any. Its number is the next one.
+    Attach(usize, LinkKind, Option<usize>),
+    /// Cancels the cleanup with a number.
+    Cancel(u64),
     /// The field of a record is a short link to another.
     Link(usize, usize, usize),
     /// A word outside of the heap is a short link to a record.
@@ -75,6 +79,14 @@ fn id_of(rt: &impl Abort, records: &Records, record: usize) -> RecordId {
     at(rt, records.ids.as_slice(), record)
 }
 
+/// The address of a record, or 0 of none.
+fn address_of(rt: &impl Abort, records: &Records, record: Option<usize>) -> Addr {
+    match record {
+        Some(record) => id_of(rt, records, record).address(),
+        None => 0,
+    }
+}
+
 /// The number of the record with this address.
 fn number_of(records: &Records, address: Addr) -> Option<usize> {
     records.ids.iter().position(|id| id.address() == address)
@@ -88,14 +100,10 @@ fn register(
     kind: Kind,
     data: Option<usize>,
 ) {
-    let client_data = match data {
-        Some(other) => id_of(rt, records, other).address(),
-        None => 0,
-    };
     let finalizer = Finalizer {
         kind,
         procedure: record as u64,
-        client_data,
+        client_data: address_of(rt, records, data),
         rank: 0,
     };
     let id = id_of(rt, records, record);
@@ -104,6 +112,29 @@ fn register(
             .runtime
             .register(id, finalizer)
             .expect(rt, "a finalizer");
+    }
+}
+
+/// Adds a cleanup to a record.
+fn attach(
+    rt: &impl Abort,
+    records: &mut Records,
+    record: usize,
+    when: LinkKind,
+    data: Option<usize>,
+) {
+    let cleanup = Cleanup {
+        when,
+        procedure: record as u64,
+        client_data: address_of(rt, records, data),
+        rank: 0,
+    };
+    let id = id_of(rt, records, record);
+    if records.runtime.heap().stands(id) {
+        records
+            .runtime
+            .add_cleanup(id, cleanup)
+            .expect(rt, "a cleanup");
     }
 }
 
@@ -162,6 +193,10 @@ pub(crate) fn carry_out(rt: &impl Abort, records: &mut Records, step: Step) {
         }
         Step::Keyed(kind, record, field, key) => keyed(rt, records, kind, record, field, key),
         Step::Register(record, kind, data) => register(rt, records, record, kind, data),
+        Step::Attach(record, when, data) => attach(rt, records, record, when, data),
+        Step::Cancel(number) => {
+            let _ = records.runtime.cancel(number).expect(rt, "a cleanup");
+        }
         Step::Link(record, field, to) => {
             let word = id_of(rt, records, record).word(field % FIELDS);
             link(rt, records, word, to);
