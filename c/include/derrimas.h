@@ -404,8 +404,9 @@ derrimas_code derrimas_finish(derrimas_world *world, const derrimas_entry *entry
 
 /* Frees the memory of finished entries; *count is how many. What isn't finished stays, with its place, and is taken,
  * held and finished as before. It frees nothing if there is at most one finished entry for each 16 unfinished ones, and
- * otherwise all. It takes no memory. A world that never forgets has 56 bytes for each entry ever queued, so a program
- * that runs for long calls this after its collections.
+ * otherwise all. It keeps room for the entries of one pass, one for each word of the heap but at most 65,536. It takes no
+ * memory. A world that never forgets has 56 bytes for each entry ever queued, so a program that runs for long calls this
+ * after its collections.
  * Refused: DERRIMAS_NO_WORLD. */
 derrimas_code derrimas_forget(derrimas_world *world, uint64_t *count) DERRIMAS_NONNULL(1, 2);
 

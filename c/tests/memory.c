@@ -1,16 +1,20 @@
 /* Want of memory: malloc and realloc are refused, one after another, and each call that answers DERRIMAS_NO_MEMORY has changed nothing.
  *
- * Linked with --wrap=malloc,--wrap=realloc,--wrap=calloc, so that the library's allocations come here.
+ * Linked with --wrap=malloc,--wrap=realloc,--wrap=calloc,--wrap=free, so that the library's allocations come here. They are counted, too: derrimas_forget has to
+ * give memory back.
  */
 #include "check.h"
+#include <malloc.h>
 #include <stdlib.h>
 
 void *__real_malloc(size_t size);
 void *__real_calloc(size_t count, size_t size);
 void *__real_realloc(void *at, size_t size);
+void __real_free(void *at);
 void *__wrap_malloc(size_t size);
 void *__wrap_calloc(size_t count, size_t size);
 void *__wrap_realloc(void *at, size_t size);
+void __wrap_free(void *at);
 
 /* How many allocations are granted yet; none is refused where it is negative. */
 static long granted = -1;
@@ -25,9 +29,34 @@ static bool is_refused(void)
     return false;
 }
 
-void *__wrap_malloc(size_t size) { return is_refused() ? NULL : __real_malloc(size); }
-void *__wrap_calloc(size_t count, size_t size) { return is_refused() ? NULL : __real_calloc(count, size); }
-void *__wrap_realloc(void *at, size_t size) { return is_refused() ? NULL : __real_realloc(at, size); }
+/* How many bytes are in use. */
+static size_t in_use;
+
+static void *counted(void *at)
+{
+    in_use += malloc_usable_size(at);
+    return at;
+}
+
+void *__wrap_malloc(size_t size) { return is_refused() ? NULL : counted(__real_malloc(size)); }
+void *__wrap_calloc(size_t count, size_t size) { return is_refused() ? NULL : counted(__real_calloc(count, size)); }
+
+void *__wrap_realloc(void *at, size_t size)
+{
+    const size_t before = malloc_usable_size(at);
+    void *now;
+
+    if (is_refused() || !(now = __real_realloc(at, size)))
+        return NULL;
+    in_use -= before;
+    return counted(now);
+}
+
+void __wrap_free(void *at)
+{
+    in_use -= malloc_usable_size(at);
+    __real_free(at);
+}
 
 static derrimas_world world;
 static const derrimas_slot A = {0, 0};
@@ -187,6 +216,57 @@ static unsigned publishing(void)
     return refusals;
 }
 
+/* Queues as many entries as there are objects, and finishes them. */
+static void finishing(uint64_t objects)
+{
+    derrimas_made made;
+    derrimas_registered registered;
+    derrimas_entry entry;
+    derrimas_passed passed;
+
+    for (uint64_t n = 0; n < objects; n++) {
+        OK(derrimas_alloc(&world, A, 1, DERRIMAS_SCANNED, &made));
+        OK(derrimas_register(&world, A, DERRIMAS_NORMAL, 0, 0, 0, &registered));
+    }
+    OK(derrimas_set(&world, A, 0));
+    OK(derrimas_collect(&world, &passed));
+    IS(passed.picked, objects);
+    for (uint64_t n = 0; n < objects; n++) {
+        OK(derrimas_take(&world, &entry));
+        OK(derrimas_finish(&world, &entry));
+    }
+    OK(derrimas_collect(&world, &passed)); /* reclaims them */
+    IS(passed.picked, 0);
+}
+
+enum { BLOCKS = 16, WORDS = 64 * BLOCKS, OBJECTS = 1000, ENTRY = 56 };
+
+/* A world forgets its finished entries after so many passes. It gives back the memory of all entries but that of the next pass, which queues one for each word at most,
+ * and a sixteenth. So no more is in use then, however many entries there were. */
+static void forgetting(void)
+{
+    static const unsigned passes[] = {20, 100, 1, 50, 3, 100};
+    size_t least = 0;
+
+    OK(derrimas_open(&world, BLOCKS, 1));
+    for (size_t n = 0; n < sizeof passes / sizeof *passes; n++) {
+        const uint64_t entries = (uint64_t)passes[n] * OBJECTS;
+        size_t before;
+        uint64_t count;
+
+        for (unsigned pass = 0; pass < passes[n]; pass++)
+            finishing(OBJECTS);
+        before = in_use;
+        OK(derrimas_forget(&world, &count));
+        IS(count, entries);
+        IS(entries <= WORDS || before - in_use >= (entries - WORDS - WORDS / 16) * ENTRY, true);
+        if (n == 0)
+            least = in_use;
+        IS(in_use <= least, true);
+    }
+    derrimas_destroy(&world);
+}
+
 int main(void)
 {
     unsigned refusals = 0;
@@ -197,6 +277,8 @@ int main(void)
     IS(refusals > 0, true);
     without_memory(objects);
     IS(publishing() > 0, true);
+    forgetting();
+    IS(in_use, 0);
     printf("an open wants %ld allocations; %u refusals in %llu objects\n", wanted, refusals, (unsigned long long)objects);
     return told();
 }
