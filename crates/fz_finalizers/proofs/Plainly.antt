@@ -9,7 +9,7 @@ use Rattle.fz_pass.specs.Flagged.{AreNormal}
 use Rattle.fz_pass.specs.Holds.{Ephemerons, IsOfKey, IsWhole, no_ephemerons}
 use Rattle.fz_pass.specs.Marks.{AreTargets, IsClosed}
 use Rattle.fz_pass.specs.Whole.{DecidesWhole}
-use Rattle.fz_pass.proofs.ByPaths.{by_paths, nothing_settles}
+use Rattle.fz_pass.proofs.ByPaths.{by_paths}
 use Rattle.fz_finalizers.specs.Follows.{Follows, Pass, next_pass}
 use Rattle.fz_finalizers.specs.Passed.{DecidesFor, DecidesWholeFor, PassesFor, PassesFound, parts_in, parts_left_in}
 use Rattle.fz_finalizers.specs.States.{State, AreFlags}
@@ -18,19 +18,6 @@ use Rattle.fz_finalizers.proofs.Flags.{normal_of}
 -- the state with these ephemerons
 abbrev pub put : State → Ephemerons → State
 put s ephemerons = record s { ephemerons = ephemerons }
-
--- the host is the same in the end
-pub plain_closed : {H : Type 0} (objects : H → Map Object) (marked : H → ℕ → Bool) (old new : H) → new ≡ old → IsClosed (objects old) (marked old) → IsClosed (objects new) (marked new)
-plain_closed objects marked old new same = subst (λ h. IsClosed (objects h) (marked h)) (sym same)
-
-pub plain_keys : (objects : Map Object) (e : Ephemerons) → e ≡ no_ephemerons → AreTargets objects e.short × AreTargets objects e.long
-plain_keys objects e none = (
-  λ word key here. absurd (none-some key (sym (ap (λ (x : Ephemerons). get x.short word) none ∙ get-empty nat_cmp word) ∙ here)),
-  λ word key here. absurd (none-some key (sym (ap (λ (x : Ephemerons). get x.long word) none ∙ get-empty nat_cmp word) ∙ here)),
-)
-
-pub plain_whole : (place : ℕ → Option ℕ) (objects : Map Object) (marked : ℕ → Bool) (e : Ephemerons) → e ≡ no_ephemerons → IsClosed objects marked → IsWhole place (λ _ _. None) objects (IsOfKey e) marked
-plain_whole place objects marked e none closed = subst (λ x. IsWhole place (λ _ _. None) objects (IsOfKey x) marked) (sym none) (nothing_settles place (λ _ _. None) objects marked marked closed).0
 
 pub plain_decides : (Exact : Type 0) (place : ℕ → Option ℕ) (value : Map Object → ℕ → Option ℕ) (pass : ℕ) (old : State) (objects : Map Object) (found : ℕ → Bool) (new : State) (new_objects : Map Object) (marked : ℕ → Bool)
     → AreNormal old.registrations (contains old.late) → points objects 0 ≡ None → IsClosed objects found → old.ephemerons ≡ no_ephemerons

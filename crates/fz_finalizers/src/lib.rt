@@ -14,7 +14,6 @@ mod linking;
 mod links;
 mod passes;
 mod past;
-mod plain;
 mod queue;
 mod ready;
 mod refused;

@@ -14,10 +14,9 @@ ghost use Rattle.fz_finalizers.specs.States.{AreFlags, HasRooms, IsRoomier, Keep
 
 use crate::finalizers::Finalizers;
 use crate::linking::reserve_moves;
-use crate::plain::Plain;
 use crate::refused::Refused;
 use fz_model::LinkKind;
-use fz_pass::{Ephemerons, Host, Nothing, Values};
+use fz_pass::{Ephemerons, Host, Nothing, Plain, Values};
 use fz_table::MOST_ENTRIES;
 use std::mem;
 

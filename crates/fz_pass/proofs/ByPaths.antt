@@ -24,7 +24,7 @@ use Rattle.fz_pass.specs.Marks.{IsClosed}
 use Rattle.fz_pass.specs.Places.{is_held, placed, placed_entries, links_held}
 use Rattle.fz_pass.specs.Whole.{DecidesWhole, IsFirst, IsHeldEarly, IsHeldFirst, IsLost, IsLostEarly, IsPickedThen, IsRetained, ephemerons_judged, objects_judged}
 use Rattle.fz_pass.specs.WholeLaws.{DecidesByPaths, IsByPaths, NothingSettles}
-use Rattle.fz_pass.proofs.Decided.{child_before}
+use Rattle.fz_pass.proofs.Children.{child_before}
 use Rattle.fz_pass.proofs.Filling.{filled_never}
 use Rattle.fz_pass.proofs.Holding.{holds_leads, whole_from}
 use Rattle.fz_pass.proofs.Marking.{by_another, closed_leads}

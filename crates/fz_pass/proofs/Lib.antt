@@ -14,14 +14,14 @@ pub mod Ranking
 pub mod Spreading
 pub mod Bytes
 pub mod Listed
-pub mod Decided
+pub mod Children
 pub mod Passed
 pub mod Tiers
 pub mod Led
-pub mod Flags
 pub mod Wholes
 pub mod OwnKeys
 pub mod ByPaths
+pub mod Plainly
 pub mod Unflagged
 pub mod Absent
 pub mod Emptied

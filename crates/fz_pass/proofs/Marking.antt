@@ -12,7 +12,7 @@ use Rattle.fz_model.specs.Pass.{LeadsFirst, is_outside}
 use Rattle.fz_model.specs.Reachability.{Child, Leads, Itself, OneMore}
 use Rattle.fz_pass.specs.Leading.{AnyOf, IsLeading, AreLeading, is_unreachable}
 use Rattle.fz_pass.proofs.AnyOf.{any_push, leading_entries, LeadsIf}
-use Rattle.fz_pass.proofs.Decided.{first_child}
+use Rattle.fz_pass.proofs.Children.{first_child}
 use Rattle.fz_pass.specs.Marks.{IsClosed, Marks, IsLeadingBut, IsLastToMark, AreRegistered}
 
 module _ (Exact : Type 0) (objects : Map Object) where

@@ -12,7 +12,7 @@ use Rattle.fz_model.proofs.SeenKept.{points-filled}
 use Rattle.fz_pass.specs.Marks.{IsClosed, AreRegistered, AreTargets, with_targets, with_holders}
 use Rattle.fz_pass.specs.Places.{is_held, links_held}
 use Rattle.fz_pass.proofs.Filling.{has_filled}
-use Rattle.fz_pass.proofs.Decided.{child_before}
+use Rattle.fz_pass.proofs.Children.{child_before}
 
 -- ---- links that are dropped by their targets, and then by their words
 

@@ -24,7 +24,7 @@ use Rattle.fz_pass.specs.Places.{placed, links_held}
 use Rattle.fz_pass.specs.Queued.{MarksLed, is_ready}
 use Rattle.fz_pass.specs.QueuedWhole.{QueuesWhole}
 use Rattle.fz_pass.specs.Whole.{ArePicksThen, DecidesWhole, IsFirst, IsHeldEarly, IsHeldFirst, IsLost, IsLostEarly, IsPickedThen, ephemerons_judged, objects_judged}
-use Rattle.fz_pass.proofs.Decided.{first_child}
+use Rattle.fz_pass.proofs.Children.{first_child}
 use Rattle.fz_pass.proofs.Filling.{has_filled}
 use Rattle.fz_pass.proofs.Holding.{holds_all, holds_leads, within_whole}
 use Rattle.fz_pass.proofs.Picked.{all_map, without_append, without_other, flags_append, was_registered}

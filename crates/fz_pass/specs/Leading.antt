@@ -21,10 +21,6 @@ abbrev pub AreLeading : Map Object → Map Registration → (ℕ → Bool) → �
 AreLeading objects registrations listed a =
     (o : ℕ) × (r : Registration) × (get registrations o ≡ Some r) × IsTrue (listed o) × IsLeading objects o r.kind a
 
--- a listed object reaches it, by any number of steps
-abbrev pub AreReaching : Map Object → (ℕ → Bool) → ℕ → Type 0
-AreReaching objects listed a = (o : ℕ) × IsTrue (listed o) × Leads objects o a
-
 -- a registered object outside a set
 abbrev pub is_unreachable : Map Object → Map Registration → (ℕ → Bool) → ℕ → Bool
 is_unreachable objects registrations found a = contains_key registrations a && is_outside objects found a

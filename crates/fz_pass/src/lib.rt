@@ -12,6 +12,7 @@ mod leading;
 mod listing;
 mod pass;
 mod picking;
+mod plain;
 mod radix;
 mod ready_list;
 mod settling;
@@ -26,6 +27,7 @@ pub use law::{
     passes_without_ephemerons, whole_passes_are_safe,
 };
 pub use pass::decide;
+pub use plain::Plain;
 pub use ready_list::ReadyList;
 pub use terms::Terms;
 pub use whole::decide_whole;

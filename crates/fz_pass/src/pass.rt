@@ -1,65 +1,23 @@
-//! One pass over a heap, the table and the links.
+//! One pass over a heap without ephemerons, the table and the links.
 
-ghost use Rattle.std.specs.Prelude.{◌≡◌, ◌≤◌, ◌<◌, ◌+◌, ◌^◌, ◌&&◌, nat_lt, [], ℕ, None, vec_len, vec_capacity, IsTrue};
+ghost use Rattle.std.specs.Prelude.{◌≡◌, ◌≤◌, ◌<◌, ◌+◌, ◌^◌, ℕ, None, vec_len, vec_capacity, IsTrue};
 ghost use Rattle.std.specs.FinMap.{len};
-ghost use Rattle.std.specs.FinSet as sets;
 ghost use Rattle.fz_model.specs.Memory.{points};
 ghost use Rattle.fz_pass.specs.Decides.{parts_of, parts_left};
 ghost use Rattle.fz_pass.specs.Flagged.{AreNormal, DecidesFlagged};
-ghost use Rattle.fz_pass.specs.Leading.{LedAreMarked};
 ghost use Rattle.fz_pass.specs.Marks.{IsClosed, AreRegistered, AreTargets};
-ghost use Rattle.fz_pass.specs.Queued.{QueuesTiers};
-ghost use Rattle.fz_pass.specs.Tiers.{tiered};
 ghost use Rattle.fz_pass.specs.Picking.{without_flags};
+ghost use Rattle.fz_pass.specs.Tiers.{tiered};
 
-use crate::clearing::clear_dead;
-use crate::dropping::{drop_dead, drop_outside};
+use crate::ephemerons::Ephemerons;
 use crate::host::Host;
-use crate::leading::mark_led;
-use crate::picking::queue_unmarked;
+use crate::plain::Plain;
 use crate::ready_list::ReadyList;
 use crate::terms::Terms;
+use crate::whole::decide_whole;
 use fz_links::Links;
 use fz_model::Entry;
 use fz_table::Table;
-
-/// Whether a pass has a second round.
-pub(crate) fn has_second(table: &Table, terms: Terms) -> bool
-    ensures { result ≡ (terms.tiers && nat_lt 0 (sets.len table.now.late)) }
-{
-    terms.tiers && table.has_unreachable()
-}
-
-/// Queues the unmarked objects of both tiers: those of the second after the others, and only if no other unmarked registered object reaches them.
-fn queue_tiers<H: Host>(
-    host: &mut H,
-    table: &mut Table,
-    ready: &mut ReadyList,
-    queue: &mut Vec<Entry>,
-    terms: Terms,
-)
-    requires registered { AreRegistered (H.objects host.old) table.old.registrations }
-    requires closed { IsClosed (H.objects host.old) (H.marked host.old) }
-    requires led { LedAreMarked (H.objects host.old) table.old.registrations (H.marked host.old) }
-    requires list { len table.old.registrations ≤ ready.old.room }
-    requires room { vec_len queue.old + len table.old.registrations ≤ vec_capacity queue.old }
-    requires numbers { terms.first + len table.old.registrations < 2 ^ 64 }
-    ensures list { ready.old.room ≤ ready.new.room }
-    ensures count { vec_len queue.new + len table.new.registrations ≡ vec_len queue.old + len table.old.registrations }
-    ensures capacity { vec_capacity queue.old ≤ vec_capacity queue.new }
-    ensures queued { QueuesTiers H.is_exact (tiered terms.tiers table.old.late) terms.pass terms.first (H.objects host.old) (H.marked host.old) (H.marked host.new) table.old.content table.new.content queue.old.items queue.new.items }
-    ensures objects { H.objects host.new ≡ H.objects host.old }
-    ensures same { H.is_same host.old host.new }
-{
-    let is_second = has_second(table, terms);
-    let before = queue.len();
-    queue_unmarked(host, table, ready, queue, terms, false);
-    if !is_second {
-        return;
-    }
-    let first = terms.first + (queue.len() - before) as u64;
-    queue_unmarked(host, table, ready, queue, Terms { first, ..terms }, true);
-}
 
 /// Carries out a pass whose found set is the marked objects. Everything marked afterwards is retained, and the host reclaims the rest.
 ///
@@ -105,12 +63,7 @@ pub fn decide<H: Host>(
     ensures same { H.is_same host.old host.new }
     ensures table { table.new.registered ≡ record table.old.registered { registrations = table.new.registrations } }
 {
-    clear_dead(host, short);
-    drop_dead(host, short);
-    mark_led(host, table);
-    queue_tiers(host, table, ready, queue, terms);
-    clear_dead(host, long);
-    drop_dead(host, long);
-    drop_outside(host, short);
-    drop_outside(host, long);
+    let mut none = Ephemerons::new(*queue.allocator());
+    let host = &mut Plain::of(host);
+    decide_whole(host, table, short, long, &mut none, ready, queue, terms);
 }

@@ -1,7 +1,8 @@
 //! One pass over a heap with ephemerons.
 
-ghost use Rattle.std.specs.Prelude.{◌≡◌, ◌≤◌, ◌<◌, ◌+◌, ◌^◌, ℕ, None, vec_len, vec_capacity, IsTrue};
+ghost use Rattle.std.specs.Prelude.{◌≡◌, ◌≤◌, ◌<◌, ◌+◌, ◌^◌, ◌&&◌, nat_lt, ℕ, None, vec_len, vec_capacity, IsTrue};
 ghost use Rattle.std.specs.FinMap.{len};
+ghost use Rattle.std.specs.FinSet as sets;
 ghost use Rattle.fz_model.specs.Memory.{points};
 ghost use Rattle.fz_pass.specs.Decides.{parts_of, parts_left};
 ghost use Rattle.fz_pass.specs.Holds.{IsOfKey, IsWhole};
@@ -17,7 +18,6 @@ use crate::dropping::{drop_dead, drop_outside};
 use crate::ephemerons::Ephemerons;
 use crate::host::Values;
 use crate::leading::mark_led;
-use crate::pass::has_second;
 use crate::picking::queue_unmarked;
 use crate::ready_list::ReadyList;
 use crate::terms::Terms;
@@ -25,8 +25,16 @@ use fz_links::Links;
 use fz_model::Entry;
 use fz_table::Table;
 
-/// Queues the unmarked objects of both tiers, as `queue_tiers` does, and makes the marks whole after each.
-fn queue_tiers_whole<H: Values>(
+/// Whether a pass has a second round.
+fn has_second(table: &Table, terms: Terms) -> bool
+    ensures { result ≡ (terms.tiers && nat_lt 0 (sets.len table.now.late)) }
+{
+    terms.tiers && table.has_unreachable()
+}
+
+/// Queues the unmarked objects of both tiers, and makes the marks whole after each: those of the second after the others, and only if nothing that the others
+/// hold is among them.
+fn queue_tiers<H: Values>(
     host: &mut H,
     table: &mut Table,
     ephemerons: &mut Ephemerons,
@@ -110,7 +118,7 @@ pub fn decide_whole<H: Values>(
     ephemerons.clear_short(host);
     mark_led(host, table);
     ephemerons.settle(host); // What first steps hold waits.
-    queue_tiers_whole(host, table, ephemerons, ready, queue, terms);
+    queue_tiers(host, table, ephemerons, ready, queue, terms);
     clear_dead(host, long);
     drop_dead(host, long);
     ephemerons.clear_long(host);

@@ -11,7 +11,7 @@ use Rattle.fz_model.specs.Pass.{LeadsFirst}
 use Rattle.fz_pass.specs.Holds.{Member, ByChild}
 use Rattle.fz_pass.specs.Places.{StandApart}
 use Rattle.fz_pass.specs.Whole.{IsFirst, IsLostEarly}
-use Rattle.fz_pass.proofs.Decided.{first_child}
+use Rattle.fz_pass.proofs.Children.{first_child}
 use Rattle.fz_pass.proofs.Holding.{holds_all}
 use Rattle.fz_finalizers.specs.Passed.{parts_in}
 use Rattle.fz_finalizers.specs.States.{State}

@@ -16,7 +16,7 @@ use Rattle.fz_model.proofs.SeenKept.{points-filled}
 use Rattle.fz_pass.specs.Holds.{ByHolder, ByKey, IsHolder, IsOfKey, Member}
 use Rattle.fz_pass.specs.Marks.{with_targets}
 use Rattle.fz_pass.specs.Places.{placed, StandApart}
-use Rattle.fz_pass.proofs.Decided.{child_before}
+use Rattle.fz_pass.proofs.Children.{child_before}
 use Rattle.fz_pass.proofs.Filling.{filled_same, filled_twice, has_filled}
 use Rattle.fz_pass.proofs.Holding.{whole_closed}
 use Rattle.fz_pass.proofs.Placing.{placed_back}

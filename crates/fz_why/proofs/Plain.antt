@@ -17,7 +17,7 @@ use Rattle.fz_pass.specs.Holds.{ByChild, IsOfKey, Member, no_ephemerons}
 use Rattle.fz_pass.specs.Marks.{IsClosed}
 use Rattle.fz_pass.specs.Places.{StandApart, placed}
 use Rattle.fz_pass.proofs.ByPaths.{by_path}
-use Rattle.fz_pass.proofs.Decided.{child_before, first_child}
+use Rattle.fz_pass.proofs.Children.{child_before, first_child}
 use Rattle.fz_pass.proofs.Filling.{filled_same}
 use Rattle.fz_pass.proofs.Holding.{holds_leads}
 use Rattle.fz_pass.proofs.Marking.{closed_leads}

@@ -14,7 +14,7 @@ use Rattle.fz_pass.specs.Holds.{Ephemerons, Holds, Member, ByChild, ByHolder, By
 use Rattle.fz_pass.specs.Places.{is_held, links_held, placed}
 use Rattle.fz_pass.specs.Whole.{IsLost, ephemerons_judged}
 use Rattle.fz_pass.specs.WholeLaws.{without_key}
-use Rattle.fz_pass.proofs.Decided.{child_before}
+use Rattle.fz_pass.proofs.Children.{child_before}
 use Rattle.fz_pass.proofs.Holding.{holds_all, within_whole}
 use Rattle.fz_pass.proofs.OwnKeys.{keys_hold_nothing}
 use Rattle.fz_finalizers.specs.Passed.{parts_in}

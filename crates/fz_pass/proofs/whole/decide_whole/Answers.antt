@@ -62,8 +62,8 @@ mark_led-requires-clause-closed g c =
 pub settle-requires : goal.settle-requires
 settle-requires g c = record { closed = subst (λ (m : Map Object). IsClosed m (g.H.Host.marked c.mark_led.new.host)) (sym c.mark_led.ensures.objects) c.mark_led.ensures.marked.closed }
 
-pub queue_tiers_whole-requires-clause-registered : goal.queue_tiers_whole-requires-clause-registered
-queue_tiers_whole-requires-clause-registered g c =
+pub queue_tiers-requires-clause-registered : goal.queue_tiers-requires-clause-registered
+queue_tiers-requires-clause-registered g c =
     let t = g.H.Host in
     let objects = t.objects c.args.host.now in
     let found = t.marked c.args.host.now in
@@ -75,8 +75,8 @@ queue_tiers_whole-requires-clause-registered g c =
     subst (λ (m : Map Object). AreRegistered m all) (sym (c.settle.ensures.objects ∙ c.mark_led.ensures.objects ∙ second))
     (registered_still (cleared words found objects) (placed t.place c.args.ephemerons.now.ephemerons.short) (t.marked c.clear_dead.new.host) all (registered_still objects words found all c.requires.registered))
 
-pub queue_tiers_whole-requires-clause-closed : goal.queue_tiers_whole-requires-clause-closed
-queue_tiers_whole-requires-clause-closed g c =
+pub queue_tiers-requires-clause-closed : goal.queue_tiers-requires-clause-closed
+queue_tiers-requires-clause-closed g c =
     let t = g.H.Host in
     subst (λ (m : Map Object). IsClosed m (t.marked c.settle.new.host)) (sym c.settle.ensures.objects)
     (whole_closed t.place g.H.Values.value (t.objects c.mark_led.new.host) (IsOfKey c.clear_short.new.self.ephemerons) (t.marked c.settle.new.host) c.settle.ensures.settled.whole)
@@ -92,7 +92,7 @@ clear_dead-requires-2 g c =
     let second : t.objects c.clear_short.new.host ≡ cleared (placed t.place c.args.ephemerons.now.ephemerons.short) (t.marked c.clear_dead.new.host) (cleared words found objects) =
     c.clear_short.ensures.objects ∙ ap (cleared (placed t.place c.args.ephemerons.now.ephemerons.short) (t.marked c.clear_dead.new.host)) first in
     record {
-      targets = subst (λ (m : Map Object). AreTargets m longs) (sym (c.queue_tiers_whole.ensures.objects ∙ c.settle.ensures.objects ∙ c.mark_led.ensures.objects ∙ second))
+      targets = subst (λ (m : Map Object). AreTargets m longs) (sym (c.queue_tiers.ensures.objects ∙ c.settle.ensures.objects ∙ c.mark_led.ensures.objects ∙ second))
           (targets_still (cleared words found objects) (placed t.place c.args.ephemerons.now.ephemerons.short) (t.marked c.clear_dead.new.host) longs (targets_still objects words found longs c.requires.long));
     }
 
@@ -107,15 +107,15 @@ clear_long-requires g c =
     let second : t.objects c.clear_short.new.host ≡ cleared keyed (t.marked c.clear_dead.new.host) (cleared words found objects) =
     c.clear_short.ensures.objects ∙ ap (cleared keyed (t.marked c.clear_dead.new.host)) (c.clear_dead.ensures.objects) in
     let judged : Map Object = cleared keyed (t.marked c.clear_dead.new.host) (cleared words found objects) in
-    let third : t.objects c.queue_tiers_whole.new.host ≡ judged = c.queue_tiers_whole.ensures.objects ∙ c.settle.ensures.objects ∙ c.mark_led.ensures.objects ∙ second in
-    let last : t.objects c.clear_dead-2.new.host ≡ cleared (placed t.place c.args.long.now.links) (t.marked c.queue_tiers_whole.new.host) judged =
-    c.clear_dead-2.ensures.objects ∙ ap (cleared (placed t.place c.args.long.now.links) (t.marked c.queue_tiers_whole.new.host)) third in
-    let same : c.queue_tiers_whole.new.ephemerons.ephemerons.long ≡ longs =
-    ap (λ (e : Ephemerons). e.long) (c.queue_tiers_whole.ensures.ephemerons ∙ c.settle.ensures.table ∙ c.clear_short.ensures.table) in
+    let third : t.objects c.queue_tiers.new.host ≡ judged = c.queue_tiers.ensures.objects ∙ c.settle.ensures.objects ∙ c.mark_led.ensures.objects ∙ second in
+    let last : t.objects c.clear_dead-2.new.host ≡ cleared (placed t.place c.args.long.now.links) (t.marked c.queue_tiers.new.host) judged =
+    c.clear_dead-2.ensures.objects ∙ ap (cleared (placed t.place c.args.long.now.links) (t.marked c.queue_tiers.new.host)) third in
+    let same : c.queue_tiers.new.ephemerons.ephemerons.long ≡ longs =
+    ap (λ (e : Ephemerons). e.long) (c.queue_tiers.ensures.ephemerons ∙ c.settle.ensures.table ∙ c.clear_short.ensures.table) in
     record {
       keys = subst (λ (m : Map ℕ). AreTargets (t.objects c.clear_dead-2.new.host) m) (sym same)
           (subst (λ (m : Map Object). AreTargets m longs) (sym last)
-          (targets_still judged (placed t.place c.args.long.now.links) (t.marked c.queue_tiers_whole.new.host) longs
+          (targets_still judged (placed t.place c.args.long.now.links) (t.marked c.queue_tiers.new.host) longs
           (targets_still (cleared words found objects) keyed (t.marked c.clear_dead.new.host) longs (targets_still objects words found longs c.requires.long_keys))));
     }
 
@@ -129,11 +129,11 @@ returns-clause-decided g c =
     let found = t.marked c.args.host.now in
     let first_led = t.marked c.mark_led.new.host in
     let led = t.marked c.settle.new.host in
-    let kept = t.marked c.queue_tiers_whole.new.host in
+    let kept = t.marked c.queue_tiers.new.host in
     let shorts = c.args.short.now.links in
     let longs = c.args.long.now.links in
     let table = c.args.table.now.content in
-    let new_table = c.queue_tiers_whole.new.table.content in
+    let new_table = c.queue_tiers.new.table.content in
     let late : ℕ → Bool = tiered c.args.terms.tiers table.late in
     let queue = c.args.queue.now.items in
     let keyed = c.args.ephemerons.now.ephemerons in
@@ -153,10 +153,10 @@ returns-clause-decided g c =
     (subst (λ (m : Map Object). Settles place value m (IsOfKey c.clear_short.new.self.ephemerons) E first_led led) objects3 c.settle.ensures.settled) in
     let objects4 : t.objects c.settle.new.host ≡ judged = c.settle.ensures.objects ∙ objects3 in
     let keyed3 : c.settle.new.self.ephemerons ≡ left_keyed = c.settle.ensures.table ∙ keyed2 in
-    let q = subst (λ (k : Ephemerons). QueuesWhole E place value (IsOfKey k) late c.args.terms.pass c.args.terms.first judged led kept table new_table queue c.queue_tiers_whole.new.queue.items) keyed3
-    (subst (λ (m : Map Object). QueuesWhole E place value (IsOfKey c.settle.new.self.ephemerons) late c.args.terms.pass c.args.terms.first m led kept table new_table queue c.queue_tiers_whole.new.queue.items) objects4 c.queue_tiers_whole.ensures.queued) in
-    let keyed4 : c.queue_tiers_whole.new.ephemerons.ephemerons ≡ left_keyed = c.queue_tiers_whole.ensures.ephemerons ∙ keyed3 in
-    let objects5 : t.objects c.queue_tiers_whole.new.host ≡ judged = c.queue_tiers_whole.ensures.objects ∙ objects4 in
+    let q = subst (λ (k : Ephemerons). QueuesWhole E place value (IsOfKey k) late c.args.terms.pass c.args.terms.first judged led kept table new_table queue c.queue_tiers.new.queue.items) keyed3
+    (subst (λ (m : Map Object). QueuesWhole E place value (IsOfKey c.settle.new.self.ephemerons) late c.args.terms.pass c.args.terms.first m led kept table new_table queue c.queue_tiers.new.queue.items) objects4 c.queue_tiers.ensures.queued) in
+    let keyed4 : c.queue_tiers.new.ephemerons.ephemerons ≡ left_keyed = c.queue_tiers.ensures.ephemerons ∙ keyed3 in
+    let objects5 : t.objects c.queue_tiers.new.host ≡ judged = c.queue_tiers.ensures.objects ∙ objects4 in
     let objects6 : t.objects c.clear_dead-2.new.host ≡ cleared (placed place longs) kept judged = c.clear_dead-2.ensures.objects ∙ ap (cleared (placed place longs) kept) objects5 in
     let kept1 : t.marked c.clear_dead-2.new.host ≡ kept = c.clear_dead-2.ensures.marked in
     let objects7 : t.objects c.clear_long.new.host ≡ cleared (placed place keyed.long) kept (cleared (placed place longs) kept judged) =
@@ -178,18 +178,18 @@ returns-clause-decided g c =
     c.drop_outside-3.ensures.table ∙ (λ i. record { short = with_holders place now (keyed5 i).short (kept2 i); long = with_holders place now (keyed5 i).long (kept2 i) })
     ∙ (λ i. record { short = dropped_twice place now objects keyed.short found kept at i; long = dropped_twice place now objects keyed.long kept kept at i }) in
     let registered = registered_still begun (placed place keyed.short) found table.registrations (registered_still objects (placed place shorts) found table.registrations c.requires.registered) in
-    decided E place value late objects shorts longs keyed found first_led led kept table new_table c.args.terms.pass c.args.terms.first queue c.queue_tiers_whole.new.queue.items registered leading settled q
-    (parts_left now (t.marked c.clear_long.new.host) c.queue_tiers_whole.new.table c.drop_outside.new.links c.drop_outside-2.new.links) c.drop_outside-3.new.self.ephemerons
+    decided E place value late objects shorts longs keyed found first_led led kept table new_table c.args.terms.pass c.args.terms.first queue c.queue_tiers.new.queue.items registered leading settled q
+    (parts_left now (t.marked c.clear_long.new.host) c.queue_tiers.new.table c.drop_outside.new.links c.drop_outside-2.new.links) c.drop_outside-3.new.self.ephemerons
     (λ i. record { objects = retain_keys (objects7 i) (kept2 i); registrations = new_table.registrations; short = short_is i; long = long_is i }) keyed_is
 
 pub returns-clause-closed : goal.returns-clause-closed
 returns-clause-closed g c =
     let t = g.H.Host in
     let place = t.place in
-    let kept = t.marked c.queue_tiers_whole.new.host in
+    let kept = t.marked c.queue_tiers.new.host in
     let before = t.objects c.settle.new.host in
     let longs = placed place c.args.long.now.links in
-    let keyed = placed place c.queue_tiers_whole.new.ephemerons.ephemerons.long in
+    let keyed = placed place c.queue_tiers.new.ephemerons.ephemerons.long in
     let objects = t.objects c.args.host.now in
     let found = t.marked c.args.host.now in
     let words = placed place c.args.short.now.links in
@@ -199,8 +199,8 @@ returns-clause-closed g c =
     let nowhere : points before 0 ≡ None =
     ap (λ (m : Map Object). points m 0) second ∙ points-filled (is_dead (t.objects c.clear_dead.new.host) (placed place c.args.ephemerons.now.ephemerons.short) (t.marked c.clear_dead.new.host)) 0 (t.objects c.clear_dead.new.host) 0
     ∙ ap (λ (m : Map Object). points m 0) first ∙ points-filled (is_dead objects words found) 0 objects 0 ∙ c.requires.zero in
-    let closed : IsClosed before kept = whole_closed place g.H.Values.value before (IsOfKey c.settle.new.self.ephemerons) kept c.queue_tiers_whole.ensures.queued.settled_late.whole in
-    let last : t.objects c.clear_dead-2.new.host ≡ cleared longs kept before = c.clear_dead-2.ensures.objects ∙ ap (cleared longs kept) c.queue_tiers_whole.ensures.objects in
+    let closed : IsClosed before kept = whole_closed place g.H.Values.value before (IsOfKey c.settle.new.self.ephemerons) kept c.queue_tiers.ensures.queued.settled_late.whole in
+    let last : t.objects c.clear_dead-2.new.host ≡ cleared longs kept before = c.clear_dead-2.ensures.objects ∙ ap (cleared longs kept) c.queue_tiers.ensures.objects in
     let end : t.objects c.clear_long.new.host ≡ cleared keyed kept (cleared longs kept before) = c.clear_long.ensures.objects ∙ (λ i. cleared keyed (c.clear_dead-2.ensures.marked i) (last i)) in
     subst (λ (m : Map Object). IsClosed m (t.marked c.clear_long.new.host)) (sym end)
     (subst (IsClosed (cleared keyed kept (cleared longs kept before))) (sym (c.clear_long.ensures.marked ∙ c.clear_dead-2.ensures.marked))
@@ -210,13 +210,13 @@ pub returns-clause-same : goal.returns-clause-same
 returns-clause-same g c =
     let next = g.met.H.Host.transitive c.args.host.now in
     next c.clear_dead-2.new.host c.clear_long.new.host
-    (next c.queue_tiers_whole.new.host c.clear_dead-2.new.host
-    (next c.settle.new.host c.queue_tiers_whole.new.host
+    (next c.queue_tiers.new.host c.clear_dead-2.new.host
+    (next c.settle.new.host c.queue_tiers.new.host
     (next c.mark_led.new.host c.settle.new.host
     (next c.clear_short.new.host c.mark_led.new.host
     (next c.clear_dead.new.host c.clear_short.new.host c.clear_dead.ensures.same c.clear_short.ensures.same)
     c.mark_led.ensures.same)
     c.settle.ensures.same)
-    c.queue_tiers_whole.ensures.same)
+    c.queue_tiers.ensures.same)
     c.clear_dead-2.ensures.same)
     c.clear_long.ensures.same

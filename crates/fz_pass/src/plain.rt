@@ -3,18 +3,18 @@
 ghost use Rattle.std.specs.Prelude.{◌≡◌, None, refl};
 ghost use Rattle.std.proofs.Common.{◌∙◌};
 
+use crate::host::{Host, Values};
 use fz_model::Addr;
-use fz_pass::{Host, Values};
 
 /// A host as one whose ephemerons have no values, so that one pass serves both kinds of hosts.
 #[derive(Drop)]
-pub(crate) struct Plain<'a, H> {
-    pub(crate) host: &'a mut H,
+pub struct Plain<'a, H> {
+    pub host: &'a mut H,
 }
 
 impl<'a, H: Host> Plain<'a, H> {
     /// The host.
-    pub(crate) fn of(host: &'a mut H) -> Plain<'a, H>
+    pub fn of(host: &'a mut H) -> Plain<'a, H>
         ensures same_reference { result.host.ghost_name ≡ host.entry.ghost_name }
         ensures same { result.host.now ≡ host.old }
     {

@@ -17,7 +17,7 @@ use Rattle.fz_pass.proofs.Led.{led_still}
 use Rattle.fz_pass.proofs.Marking.{marks_as, marks_none}
 use Rattle.fz_pass.proofs.Picked.{picks_as, picks_none, was_registered}
 use Rattle.fz_pass.proofs.Tiers.{flag_left, flag_of_round, none_late, ready_flag, same_reached, same_ready}
-use Rattle.fz_pass.proofs.whole.queue_tiers_whole.Goals as goal
+use Rattle.fz_pass.proofs.whole.queue_tiers.Goals as goal
 
 pub settle-requires : goal.settle-requires
 settle-requires g c = record { closed = subst (λ (m : Map Object). IsClosed m (g.H.Host.marked c.queue_unmarked.new.host)) (sym c.queue_unmarked.ensures.objects) c.queue_unmarked.ensures.marked.closed }
