@@ -15,6 +15,7 @@ use Rattle.fz_model.specs.declared.answers.Entry.{Entry}
 use Rattle.fz_model.specs.declared.answers.Pick.{Pick}
 use Rattle.fz_model.specs.Pass.{entries_of}
 use Rattle.fz_model.specs.Events.{same_entry}
+use Rattle.fz_model.proofs.Events.{same_itself}
 use Rattle.fz_bits.specs.Flags.{Set, IsNext}
 use Rattle.fz_model.proofs.Sets.{has_removed}
 use Rattle.fz_finalizers.proofs.Gathered.{placed_same, placed_all, placed-append, placed_at, place_in, stands_in, is_in}
@@ -310,6 +311,43 @@ module _ (past entries : List Entry) (kept first : ℕ) (held : Set) (outstandin
 
       pub others_held : (shown : List Entry) → shown ≡ now → placed_in (remove held place) 0 entries ≡ filter (λ d. not (same_entry entry d)) shown
       others_held shown same_held = held_less entry place in_place (here_as true is) ∙ ap (filter (λ d. not (same_entry entry d))) (sym same_held)
+
+  -- ---- an entry of the window, by its number
+
+  module _ (entry : Entry) (number : ℕ) (from : first ≤ number) (queue : List Entry) (all : queue ≡ past ++ drop kept entries) (there : slice_get queue number ≡ Some entry) where
+    abbrev place : ℕ
+    place = kept + (number - first)
+
+    by_number : slice_get (drop kept entries) (number - first) ≡ Some entry
+    by_number =
+        let is = h.past_is in
+        sym (slice_get-right past (drop kept entries) (number - first)) ∙ ap (slice_get (past ++ drop kept entries)) (omega (arith, is, from)) ∙ ap (λ es. slice_get es number) (sym all) ∙ there
+
+    at_place : slice_get entries place ≡ Some entry
+    at_place = sym (slice_get-drop kept entries (number - first)) ∙ by_number
+
+    of_number : IsPlaceOf entries entry.seq place
+    of_number = let seq = numbered_at first (drop kept entries) (number - first) entry h.stored.numbered by_number in late_place entries kept first h.stored entry.seq place (omega (arith, seq)) (omega (arith, seq))
+
+    held_if : (b : Bool) → contains held place ≡ b → is_here entry place ≡ b
+    held_if b is = ap (λ o. contains held place && option_map_or (same_entry entry) o false) at_place ∙ (λ i. is i && same_itself entry i) ∙ both b
+      where
+        both : (c : Bool) → (c && true) ≡ c
+        both true = refl
+        both false = refl
+
+    pub window_not_held : (shown : List Entry) → shown ≡ now → contains held place ≡ false → list_any (same_entry entry) shown ≡ false
+    window_not_held shown same_held off = ap (list_any (same_entry entry)) same_held ∙ tested entry place of_number ∙ held_if false off
+
+    module _ (on : contains held place ≡ true) where
+      pub window_one_less : outstanding ≡ length (placed_in (remove held place) 0 entries) + 1
+      window_one_less = one_fewer entry place of_number (held_if true on)
+
+      pub window_ready : IsReady past entries kept first (remove held place) (outstanding - 1)
+      window_ready = ready_less entry place of_number (held_if true on)
+
+      pub window_others : (shown : List Entry) → shown ≡ now → placed_in (remove held place) 0 entries ≡ filter (λ d. not (same_entry entry d)) shown
+      window_others shown same_held = held_less entry place of_number (held_if true on) ∙ ap (filter (λ d. not (same_entry entry d))) (sym same_held)
 
   -- ---- the next one that is held
 

@@ -29,8 +29,8 @@ fn check(ephemerons: &Ephemerons, kind: LinkKind, word: Addr, key: Addr) -> Resu
 }
 
 impl Finalizers {
-    /// Makes a word an ephemeron of a key. If it is one already, this replaces it. The word retains its value, which is what the word points to, only as long as
-    /// both the key and the object in which the word lies are retained.
+    /// Makes a word an ephemeron of a key. If it is one already, this replaces it. The word retains its value, which is what the word points to, only as long
+    /// as both the key and the object in which the word lies are retained.
     ///
     /// The host has to ensure that the key is an object, and doesn't scan the word with the object in which it lies. Takes no room that `reserve` reserved, and
     /// reserves what a pass and a move need. Fails with, in this order: `Zero` if the word or the key is 0, `Full` if there are 2^32 others of the kind,

@@ -259,8 +259,8 @@ impl Finalizers {
     }
 
     /// Queues every registration, whatever is marked, and returns how many there were: `GC_finalize_all`. The order is by rank, then address, with those of
-    /// kind `Unreachable` after the others. The entries' pass is 0, and so are their births. Links, ephemerons and cleanups are unchanged. Takes time proportional
-    /// to the registrations.
+    /// kind `Unreachable` after the others. The entries' pass is 0, and so are their births. Links, ephemerons and cleanups are unchanged. Takes time
+    /// proportional to the registrations.
     pub fn queue_all(&mut self) -> u64
         ensures queued { QueuesAll (length self.old.queue) self.old.registrations (contains self.old.late) self.old.queue self.new.queue }
         ensures follows { Follows self.old.state QueueAll self.new.state }

@@ -1,6 +1,6 @@
 //! The queue of finalizers, and which of its entries aren't finished.
 
-ghost use Rattle.std.specs.Prelude.{◌≡◌, ◌≤◌, ◌<◌, ◌+◌, ◌*◌, ◌^◌, ◌⊎◌, [], ◌∷◌, ◌||◌, min, not, ℕ, Bool, None, drop, filter, length, slice_get, vec_len, vec_capacity, IsTrue, OnOk, OnErr, IfOk, IfErr, IfSome};
+ghost use Rattle.std.specs.Prelude.{◌≡◌, ◌≤◌, ◌<◌, ◌+◌, ◌*◌, ◌^◌, ◌⊎◌, [], ◌∷◌, ◌||◌, min, not, ℕ, Bool, None, drop, filter, length, slice_get, vec_len, vec_capacity, IsTrue, OnOk, OnErr, IfOk, IfErr, IfSome, MatchOption};
 ghost use Rattle.std.specs.FinSet.{contains};
 ghost use Rattle.std.specs.FinMap.{len, empty};
 ghost use Rattle.std.specs.List.{list_any};
@@ -314,6 +314,25 @@ impl Queue {
         self.held.remove(place as u64);
         self.outstanding -= 1;
         true
+    }
+
+    /// Finishes the entry of the window with this number, if it is held, and returns it.
+    #[inline(always)]
+    pub(crate) fn finish_number(&mut self, number: u64) -> Option<Entry>
+        requires window { self.old.forgotten ≤ number }
+        ensures entry { result ≡ slice_get self.old.queue number }
+        ensures queue { self.new.queue ≡ self.old.queue }
+        ensures held { MatchOption result (self.new ≡ self.old) (λ e. self.new.held ≡ filter (λ h. not (same_entry e h)) self.old.held) }
+        ensures forgotten { (self.new.forgotten ≡ self.old.forgotten) × (self.new.remembered ≡ self.old.remembered) }
+        ensures room { self.old.room ≤ self.new.room }
+    {
+        let entry = self.entry(number)?;
+        let place = self.kept as u64 + (number - self.first);
+        if self.held.contains(place) {
+            self.held.remove(place);
+            self.outstanding -= 1;
+        }
+        Some(entry)
     }
 
     /// Every entry ever queued, as a value for contracts.

@@ -301,18 +301,17 @@ impl Ready {
     }
 
     /// Takes the next entry of the queue, and doesn't hold it.
+    #[inline(always)]
     pub(crate) fn take_finished(&mut self) -> Option<Entry>
         ensures takes { TakesFinished result self.old self.new }
         ensures memory { self.new.memory ≡ self.old.memory }
         ensures room { self.old.room ≤ self.new.room }
     {
-        let number = self.taken;
-        if number >= self.queue.queued() {
+        if self.taken >= self.queue.queued() {
             return None;
         }
-        let entry = self.queue.entry(number)?;
-        self.queue.finish(&entry);
-        self.taken = number + 1;
+        let entry = self.queue.finish_number(self.taken)?;
+        self.taken += 1;
         Some(entry)
     }
 

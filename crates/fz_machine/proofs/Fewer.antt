@@ -53,8 +53,8 @@ weight Led = 5
 weight Picked = 3
 weight Last = 1
 
--- how many questions may follow those about the keys and the holders of a round after which so many ephemerons are put off: each takes its weight; and one that is let through takes three, and
--- then the others are told, and are asked about twice in a round of their own, and twice in a round about all
+-- how many questions may follow those about the keys and the holders of a round after which so many ephemerons are put off: each takes its weight; and one that
+-- is let through takes three, and then the others are told, and are asked about twice in a round of their own, and twice in a round about all
 abbrev most : ℕ → ℕ → ℕ
 most w zero = 0
 most w (suc n) = w + 4 * n + 3 + most w n

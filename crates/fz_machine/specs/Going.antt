@@ -140,7 +140,8 @@ asked_in tables phase = 0
 abbrev pub questions_by : Option Phase → List Table → ℕ
 questions_by phase tables = questions_to_come phase (length (left_in tables phase)) (map (λ (t : Table). length t.order) tables)
 
--- the table of a sweep: what should be noted is, if it is complete; in its sweep each of its regions either is told or is left to be told, and else nothing is told
+-- the table of a sweep: what should be noted is, if it is complete; in its sweep each of its regions either is told or is left to be told, and else nothing is
+-- told
 pub record IsTable (sweep : Sweep) (s : State) (t : Table) (phase : Option Phase) : Type 0 where
   pub noted : IsTrue t.complete → AreNoted sweep s t.order
   pub whole : phase ≡ Some (Regions sweep) → IsTrue t.complete → keys_of t.told ++ t.left ≡ keys_of t.order

@@ -47,8 +47,8 @@ MayBeAsked (Some ask) subject g = MayAsk ask subject g
 abbrev pub Gains : Type 0 → Graph → Graph → (ℕ → Type 0) → Type 0
 Gains Exact old new gained = (new.objects ≡ old.objects) × Marks Exact old.objects old.marked new.marked gained
 
--- what an honest host answers, and the graph afterwards; for other commands than `MarkValue` any answer is accepted; `place` is the word of an object that a link
--- or an ephemeron denotes, if it denotes one, and `value` is the object to which the word of an ephemeron points, if any
+-- what an honest host answers, and the graph afterwards; for other commands than `MarkValue` any answer is accepted; `place` is the word of an object that a
+-- link or an ephemeron denotes, if it denotes one, and `value` is the object to which the word of an ephemeron points, if any
 abbrev pub Answers : Type 0 → (ℕ → Option ℕ) → (Map Object → ℕ → Option ℕ) → Ask → ℕ → Graph → Bool → Graph → Type 0
 Answers Exact place value IsMarked object old answer new = (answer ≡ old.marked object) × (new ≡ old)
 Answers Exact place value MarkChildren object old answer new = Gains Exact old new (IsLeadingBut old.objects false object)
@@ -95,8 +95,8 @@ KeepsValues place value ephemerons =
     (objects : Map Object) (cleared word key first : ℕ) → points objects 0 ≡ None → IsOfKey ephemerons word key
     → value (written_at place cleared objects) word ≡ Some first → value objects word ≡ Some first
 
--- when a pass may begin: marking is complete, registered objects, targets of links and keys are objects of the graph, no two links denote one word, and ephemerons keep their
--- values while words are cleared
+-- when a pass may begin: marking is complete, registered objects, targets of links and keys are objects of the graph, no two links denote one word, and
+-- ephemerons keep their values while words are cleared
 pub record MayBegin (place : ℕ → Option ℕ) (value : Map Object → ℕ → Option ℕ) (s : State) (g : Graph) : Type 0 where
   pub registered : AreRegistered g.objects s.registrations
   pub short : AreTargets g.objects s.short

@@ -10,8 +10,8 @@ use Rattle.fz_machine.specs.declared.question.Question.{Question}
 use Rattle.fz_machine.specs.Going.{ephemerons_in, questions_in}
 use Rattle.fz_machine.specs.Machines.{Machine, Heard, Answers, Words, AsksRegions, IsBegunFrom, GoesTo, IsAbandoned, IsTold, IsWorked, PassesOver}
 
--- this many answers were processed since a pass began, for each question about items no more than it asked for; meanwhile words about regions are told, workers take and
--- finish entries, and the host tells keys
+-- this many answers were processed since a pass began, for each question about items no more than it asked for; meanwhile words about regions are told, workers
+-- take and finish entries, and the host tells keys
 pub data Hears (begun : Machine) : Machine → ℕ → Type 0 where
   Begun : Hears begun begun 0
   Goes : {m new : Machine} {next : Next} {n : ℕ} (answers : List Bool) → length answers ≤ m.asked → GoesTo m (Answers answers) new next → Hears begun m n → Hears begun new (n + length answers)
@@ -19,8 +19,10 @@ pub data Hears (begun : Machine) : Machine → ℕ → Type 0 where
   Meanwhile : {m new : Machine} {n : ℕ} → IsWorked m new → Hears begun m n → Hears begun new n
   Told : {m new : Machine} {n : ℕ} (key : ℕ) → IsTold key m new → Hears begun m n → Hears begun new n
 
--- the most answers about this number of ephemerons. One that lives is asked about three times: for its key, its holder and its value. For each value that is marked, those that still
--- wait are asked about in at most two more rounds: one about those that were told, and one about all. One that waits throughout is asked about at most 14 times: twice at each of the four times at which the marks are made whole, twice behind the first of them, and four times behind the last
+-- the most answers about this number of ephemerons. One that lives is asked about three times: for its key, its holder and its value. For each value that is
+-- marked, those that still wait are asked about in at most two more rounds: one about those that were told, and one about all. One that waits throughout is
+-- asked about at most 14 times: twice at each of the four times at which the marks are made whole, twice behind the first of them, and four times behind the
+-- last
 abbrev pub most_rows : ℕ → ℕ
 most_rows n = 11 * n + n * (2 * n + 1)
 

@@ -270,8 +270,9 @@ off_in (Keys moment) off = none_off
 off_in (KeysAgain moment) off = looking off
 off_in phase off = off
 
--- the list that a phase processes, of registrations and cleanups from a number on, given what was told in the sweep before it and the list that it gets. All ephemerons are
--- listed at the first moment alone, and later those that are put off: of the others key and holder stay marked, and so does what their values reach
+-- the list that a phase processes, of registrations and cleanups from a number on, given what was told in the sweep before it and the list that it gets. All
+-- ephemerons are listed at the first moment alone, and later those that are put off: of the others key and holder stay marked, and so does what their values
+-- reach
 abbrev pub Lists : Phase → ℕ → List (ℕ × ℕ) → State → List Item → List Item → Type 0
 Lists (Keys First) from told s given items = AreEphemerons s.ephemerons items
 Lists (Keys moment) from told s given items = items ≡ filter (is_still None s.ephemerons) given

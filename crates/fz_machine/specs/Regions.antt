@@ -31,7 +31,8 @@ has_place regions n = option_map_or (λ (bits : ℕ). has_bit bits (place_in n))
 abbrev pub IsNoted : List (ℕ × ℕ) → ℕ → Type 0
 IsNoted regions n = IsTrue (has_place regions n)
 
--- what was told of regions, with a word for each: an object, or a word, is told marked if its bit is set, and unmarked if it isn't; of other regions nothing is told
+-- what was told of regions, with a word for each: an object, or a word, is told marked if its bit is set, and unmarked if it isn't; of other regions nothing is
+-- told
 abbrev pub is_marked : List (ℕ × ℕ) → ℕ → Bool
 is_marked told n = has_place told n
 
@@ -62,8 +63,8 @@ most_of LongCleanups s = len s.cleanups
 abbrev pub AreNoted : Sweep → State → List (ℕ × ℕ) → Type 0
 AreNoted sweep s regions = (n : ℕ) → IsOfSweep sweep s n → IsNoted regions n
 
--- a table of regions: all of them, in order, each with the bits of its noted places; what was told of the first ones in an open sweep; the first addresses of those of which it
--- isn't told yet; how many of these the last question was about; and whether all that should be noted is
+-- a table of regions: all of them, in order, each with the bits of its noted places; what was told of the first ones in an open sweep; the first addresses of
+-- those of which it isn't told yet; how many of these the last question was about; and whether all that should be noted is
 pub record Regions : Type 0 where
   pub order : List (ℕ × ℕ)
   pub told : List (ℕ × ℕ)

@@ -23,8 +23,8 @@ AreHonest Exact place value phase (answer ∷ answers) [] old new = ⊥
 AreHonest Exact place value phase (answer ∷ answers) (item ∷ items) old new =
     (between : Graph) × IsHonest Exact place value (ask_of phase item) (subject phase item) old answer between × AreHonest Exact place value phase answers items between new
 
--- what is heard is true of a graph: answers about items, while it changes; or words about the regions of a question, while it stays. A word has to be true of the places of
--- the sweep's items alone
+-- what is heard is true of a graph: answers about items, while it changes; or words about the regions of a question, while it stays. A word has to be true of
+-- the places of the sweep's items alone
 abbrev pub IsTrueOf : Type 0 → (ℕ → Option ℕ) → (Map Object → ℕ → Option ℕ) → Machine → Heard → Phase → Graph → Graph → Type 0
 IsTrueOf Exact place value m (Answers answers) phase old new = AreHonest Exact place value phase answers m.walk.left old new
 IsTrueOf Exact place value m (Words words) (Regions sweep) old new = AreHonestWords place (sweep_ask sweep) (IsOfSweep sweep m.finalizers.state) old (zip m.regions words) × (new ≡ old)
@@ -39,8 +39,8 @@ pub data Runs (Exact : Type 0) (place : ℕ → Option ℕ) (value : Map Object 
   Meanwhile : {m new : Machine} {g : Graph} → IsWorked m new → Runs Exact place value begun before m g → Runs Exact place value begun before new g
   Told : {m new : Machine} {g : Graph} (key : ℕ) → IsTold key m new → Runs Exact place value begun before m g → Runs Exact place value begun before new g
 
--- as for `Finalizers::pass_with_ephemerons`: what the model queues and decides, and that marks stay and are closed; what is taken and finished meanwhile might as well be taken
--- and finished after the pass
+-- as for `Finalizers::pass_with_ephemerons`: what the model queues and decides, and that marks stay and are closed; what is taken and finished meanwhile might
+-- as well be taken and finished after the pass
 pub record MakesPass (Exact : Type 0) (place : ℕ → Option ℕ) (value : Map Object → ℕ → Option ℕ) (old : State) (before : Graph) (new : State) (after : Graph) : Type 0 where
   pub passed : State
   pub passes : PassesWhole Exact place value old before.objects before.marked passed after.objects after.marked

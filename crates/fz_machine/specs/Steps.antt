@@ -11,7 +11,8 @@ use Rattle.fz_machine.specs.declared.question.TheConstants.{BATCH}
 use Rattle.fz_machine.specs.Phases.{next_phase, asks, subject, keeps, after, given, aside_in, off_in, Lists}
 use Rattle.fz_machine.specs.Off.{PutOff, looks_again, put_off}
 
--- a phase in progress: the finalizers, the items kept for the next phase, the remaining ones, those set aside, those put off, and what was told of regions in the sweep
+-- a phase in progress: the finalizers, the items kept for the next phase, the remaining ones, those set aside, those put off, and what was told of regions in
+-- the sweep
 pub record Going : Type 0 where
   pub finalizers : State
   pub kept : List Item

@@ -12,8 +12,8 @@ impl Machine {
     /// Ends an open pass early. What it has queued stays queued. An object that it hasn't queued stays registered, and so does a cleanup. A link or an
     /// ephemeron whose removal waits for an answer stays, too.
     ///
-    /// The host may reclaim nothing before its next pass has ended: registered objects, targets of links and keys still have to exist. Fails with `NoPass` if no
-    /// pass is open.
+    /// The host may reclaim nothing before its next pass has ended: registered objects, targets of links and keys still have to exist. Fails with `NoPass` if
+    /// no pass is open.
     pub fn abandon(&mut self) -> Result<(), Refused>
         ensures refused { OnErr result ((self.old.phase ≡ None) × (self.new ≡ self.old)) }
         ensures cause { IfErr result (λ r. r ≡ NoPass) }

@@ -24,7 +24,8 @@ pub(crate) fn word_of(answer: bool) -> u64
     if answer { !0 } else { 0 }
 }
 
-/// Moves those of the items from a place on, as many as this, whose bits are set to the end of the kept ones, which come before them. Returns how many are kept then.
+/// Moves those of the items from a place on, as many as this, whose bits are set to the end of the kept ones, which come before them. Returns how many are kept
+/// then.
 pub(crate) fn choose(
     items: &mut [Item],
     kept: usize,

@@ -67,8 +67,8 @@ impl Machine {
         }
     }
 
-    /// Frees the memory that isn't needed, as `Finalizers::shrink` does, and that of the list that a pass processes. A machine with regions notes all again, which takes time for
-    /// each registration, link and cleanup: regions without any go, and if one couldn't be noted for lack of memory, passes ask by regions
+    /// Frees the memory that isn't needed, as `Finalizers::shrink` does, and that of the list that a pass processes. A machine with regions notes all again,
+    /// which takes time for each registration, link and cleanup: regions without any go, and if one couldn't be noted for lack of memory, passes ask by regions
     /// again. If there isn't memory for that, the regions of this kind stay as they are. Fails with `PassOpen`.
     pub fn shrink(&mut self) -> Result<(), Refused>
         ensures judged { IsJudgedBy self.old.phase [] result }
@@ -134,11 +134,11 @@ impl Machine {
         }
     }
 
-    /// Makes a word an ephemeron of a key, in place of the one that it may be: what the word points to is retained by the word only as long as the object in which
-    /// the word lies and the key are.
+    /// Makes a word an ephemeron of a key, in place of the one that it may be: what the word points to is retained by the word only as long as the object in
+    /// which the word lies and the key are.
     ///
-    /// The host has to ensure that the key is an object, and doesn't scan the word with the object in which it lies. Takes no room that `reserve` reserved. Fails with
-    /// `PassOpen`, and then as `Finalizers::ephemeron` does.
+    /// The host has to ensure that the key is an object, and doesn't scan the word with the object in which it lies. Takes no room that `reserve` reserved.
+    /// Fails with `PassOpen`, and then as `Finalizers::ephemeron` does.
     pub fn ephemeron(
         &mut self,
         kind: LinkKind,
@@ -243,7 +243,8 @@ impl Machine {
         Ok(self.finalizers.unlink(kind, word))
     }
 
-    /// Moves a link from one word to another; its target stays the same. May take memory for the word's region. Fails with, in this order: `PassOpen`, `Zero` if the other word is 0.
+    /// Moves a link from one word to another; its target stays the same. May take memory for the word's region. Fails with, in this order: `PassOpen`, `Zero`
+    /// if the other word is 0.
     pub fn move_link(&mut self, kind: LinkKind, word: Addr, to: Addr) -> Result<MoveAnswer, Refused>
         ensures judged { IsJudgedBy self.old.phase (move_causes to) result }
         ensures regions { NotesFor (of_words kind) self.old self.new }
@@ -261,8 +262,8 @@ impl Machine {
         }
     }
 
-    /// Queues every registration, whatever is marked, and returns how many there were: `GC_finalize_all`. Links and cleanups are unchanged. Takes time proportional to the registrations. Fails
-    /// with `PassOpen`.
+    /// Queues every registration, whatever is marked, and returns how many there were: `GC_finalize_all`. Links and cleanups are unchanged. Takes time
+    /// proportional to the registrations. Fails with `PassOpen`.
     pub fn queue_all(&mut self) -> Result<u64, Refused>
         ensures judged { IsJudgedBy self.old.phase [] result }
         ensures regions { KeepsRegions self.old self.new }

@@ -3,14 +3,14 @@
 ghost use Rattle.fz_machine.specs.Heard.{PassesAreCalls, PassesEnd, RegionQuestionsEnd};
 ghost use Rattle.fz_machine.specs.Runs.{AsksRightly, AsksYoungRightly, RunsPass, RunsPlainPass, RunsYoungPass, RunsYoungPlainPass};
 
-/// A run whose answers are true of a graph carries out the model's pass, as `Finalizers::pass_with_ephemerons` does. Entries that are taken and finished between its questions
-/// might as well be taken and finished after the pass. What the host tells by `Machine::key_marked` need not be true.
+/// A run whose answers are true of a graph carries out the model's pass, as `Finalizers::pass_with_ephemerons` does. Entries that are taken and finished
+/// between its questions might as well be taken and finished after the pass. What the host tells by `Machine::key_marked` need not be true.
 ///
-/// Questions about regions are answered by words (`Machine::next_marks`). A word has to be true of the places of registered objects, of targets of links, of objects of
-/// cleanups or of words of links, as its question is about these; of other places it may say anything.
+/// Questions about regions are answered by words (`Machine::next_marks`). A word has to be true of the places of registered objects, of targets of links, of
+/// objects of cleanups or of words of links, as its question is about these; of other places it may say anything.
 ///
-/// An ephemeron whose key, holder and value are marked isn't asked about again. This requires that its value stays: while a pass is open, clearing a word may take a value away,
-/// but gives no ephemeron another one (`KeepsValues`).
+/// An ephemeron whose key, holder and value are marked isn't asked about again. This requires that its value stays: while a pass is open, clearing a word may
+/// take a value away, but gives no ephemeron another one (`KeepsValues`).
 ///
 /// If the host marks exactly what it is asked to mark, the run queues and retains exactly what the model does. If it marks more, the run queues no more than
 /// the model, and retains no less.
@@ -25,37 +25,39 @@ pub fn runs_make_the_plain_pass()
     ensures plain_of_more { RunsPlainPass ⊥ }
 {}
 
-/// Whatever the host answers and tells, and whatever is taken and finished meanwhile, a pass processes at most six answers for each registration, three for each link and
-/// one for each cleanup; and for `n` ephemerons `11 * n + n * (2 * n + 1)`. An ephemeron whose key, holder and value are marked is asked about three times in a pass. The others
-/// are put off, and the later phases ask about these alone. A value is asked about once. At most two further rounds follow each round in which a value is asked about: one
-/// over the ephemerons whose keys were told, and one over all that still wait. This bounds answers, not calls: a call of `next` without answers repeats the question, so a host
-/// that never answers never reaches the end. Each question is about at least one item, or about regions, which `region_questions_end` bounds: so a host that answers at least
-/// one item of each question about items reaches the end after at most that many questions, and those about regions.
+/// Whatever the host answers and tells, and whatever is taken and finished meanwhile, a pass processes at most six answers for each registration, three for
+/// each link and one for each cleanup; and for `n` ephemerons `11 * n + n * (2 * n + 1)`. An ephemeron whose key, holder and value are marked is asked about
+/// three times in a pass. The others are put off, and the later phases ask about these alone. A value is asked about once. At most two further rounds follow
+/// each round in which a value is asked about: one over the ephemerons whose keys were told, and one over all that still wait. This bounds answers, not calls:
+/// a call of `next` without answers repeats the question, so a host that never answers never reaches the end. Each question is about at least one item, or
+/// about regions, which `region_questions_end` bounds: so a host that answers at least one item of each question about items reaches the end after at most that
+/// many questions, and those about regions.
 pub fn passes_end()
     ensures { PassesEnd }
 {}
 
-/// Whatever the host answers and tells, and whatever is taken and finished meanwhile, a pass of a machine with regions processes words for at most one question for each
-/// 64 regions that each of its tables has when it begins, and one for those left over in each. A call without their words repeats the question, as above.
+/// Whatever the host answers and tells, and whatever is taken and finished meanwhile, a pass of a machine with regions processes words for at most one question
+/// for each 64 regions that each of its tables has when it begins, and one for those left over in each. A call without their words repeats the question, as
+/// above.
 pub fn region_questions_end()
     ensures { RegionQuestionsEnd }
 {}
 
-/// Whatever the host answers and tells, a pass consists of calls of the finalizers that take and finish nothing, even if it is abandoned. So what `every_sequence` of
-/// `fz_finalizers` states holds after each question.
+/// Whatever the host answers and tells, a pass consists of calls of the finalizers that take and finish nothing, even if it is abandoned. So what
+/// `every_sequence` of `fz_finalizers` states holds after each question.
 pub fn passes_are_calls()
     ensures { PassesAreCalls }
 {}
 
-/// A host that answers for a graph is asked only what it may be asked: to mark only objects of the graph and values, and only while everything that marked objects reach
-/// is marked. This holds for each item of a question, if the answers about the items before it are those of the graph.
+/// A host that answers for a graph is asked only what it may be asked: to mark only objects of the graph and values, and only while everything that marked
+/// objects reach is marked. This holds for each item of a question, if the answers about the items before it are those of the graph.
 pub fn questions_may_be_asked()
     ensures asked { AsksRightly (Unit {0}) }
     ensures asked_of_more { AsksRightly ⊥ }
 {}
 
-/// A pass that looks only at registrations and cleanups from a number on, as `Machine::begin_from` opens it, is a pass over all of them if the objects of the earlier ones are
-/// marked: all that the other functions here state of runs that answer for a graph holds of it, too.
+/// A pass that looks only at registrations and cleanups from a number on, as `Machine::begin_from` opens it, is a pass over all of them if the objects of the
+/// earlier ones are marked: all that the other functions here state of runs that answer for a graph holds of it, too.
 pub fn young_passes_are_passes()
     ensures young { RunsYoungPass (Unit {0}) }
     ensures young_of_more { RunsYoungPass ⊥ }

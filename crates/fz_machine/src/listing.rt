@@ -203,8 +203,8 @@ fn walk_objects(finalizers: &Finalizers, from: u64, table: &mut Regions, walk: &
     walk.put(items);
 }
 
-/// Notes the object of a cleanup of this moment, and appends the cleanup to the list, which has room for it, if its number is at least `from`, unless the object was told
-/// marked.
+/// Notes the object of a cleanup of this moment, and appends the cleanup to the list, which has room for it, if its number is at least `from`, unless the
+/// object was told marked.
 fn put_cleanup(
     table: &mut Regions,
     when: LinkKind,

@@ -24,7 +24,8 @@ pub struct By {
 
 /// Finalizers whose pass asks one question after another, for a host that can't be called back.
 ///
-/// A pass is open from `begin` until `next` returns that it has ended. Meanwhile entries can be taken and finished, and keys told; every other change is refused.
+/// A pass is open from `begin` until `next` returns that it has ended. Meanwhile entries can be taken and finished, and keys told; every other change is
+/// refused.
 pub struct Machine {
     pub(crate) finalizers: Finalizers,
     pub(crate) walk: Walk,
@@ -103,10 +104,11 @@ impl Machine {
         )
     }
 
-    /// The same, but a pass asks about regions: by `Ask::Marks` before it asks about registered objects, targets of links or objects of cleanups, and by `Ask::Live` before it
-    /// asks about words of links. It asks about nothing else of these: so it takes time for each of their regions, and for each of them that isn't marked; and if any isn't, a
-    /// walk over the table of its kind. A registration, a link or a cleanup may take memory for its regions, too. If that can't be allocated, the call succeeds, and from then on
-    /// passes ask about each of this kind, until `shrink` finds memory for the regions. Fails with `NoMemory` if an allocation fails.
+    /// The same, but a pass asks about regions: by `Ask::Marks` before it asks about registered objects, targets of links or objects of cleanups, and by
+    /// `Ask::Live` before it asks about words of links. It asks about nothing else of these: so it takes time for each of their regions, and for each of them
+    /// that isn't marked; and if any isn't, a walk over the table of its kind. A registration, a link or a cleanup may take memory for its regions, too. If
+    /// that can't be allocated, the call succeeds, and from then on passes ask about each of this kind, until `shrink` finds memory for the regions. Fails with
+    /// `NoMemory` if an allocation fails.
     pub fn with_regions(alloc: Global, by: By) -> Result<Machine, Refused>
         ensures refused { IfErr result (λ r. r ≡ Refused.NoMemory) }
         ensures finalizers { IfOk result (λ m. m.finalizers.state ≡ opening) }

@@ -48,9 +48,10 @@ impl Machine {
         self.begin_from(0)
     }
 
-    /// Opens a pass that looks only at registrations and cleanups whose numbers are at least this, and returns its number. It is the same pass as one that `begin`
-    /// opens if the objects of all others are marked: so a host with generations begins it from the number that the next registration had when its old objects
-    /// were young. If such an object isn't marked, it isn't asked about, and stays registered, and so does a cleanup. Links and ephemerons are looked at as by any pass.
+    /// Opens a pass that looks only at registrations and cleanups whose numbers are at least this, and returns its number. It is the same pass as one that
+    /// `begin` opens if the objects of all others are marked: so a host with generations begins it from the number that the next registration had when its old
+    /// objects were young. If such an object isn't marked, it isn't asked about, and stays registered, and so does a cleanup. Links and ephemerons are looked
+    /// at as by any pass.
     ///
     /// Such a pass asks no items of old registrations and cleanups, but walks over their tables. Fails with `PassOpen`.
     pub fn begin_from(&mut self, from: u64) -> Result<u64, Refused>

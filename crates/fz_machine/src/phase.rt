@@ -37,8 +37,8 @@ impl Moment {
     }
 }
 
-/// The phases before which a pass asks about regions: which of the objects, or the words, that the phase would ask about are marked, or lie in marked objects. The phase
-/// leaves those out, and asks about no other whose region was answered for.
+/// The phases before which a pass asks about regions: which of the objects, or the words, that the phase would ask about are marked, or lie in marked objects.
+/// The phase leaves those out, and asks about no other whose region was answered for.
 #[derive(Clone, Copy, Debug, PartialEq, Eq)]
 pub enum Sweep {
     /// The objects of short cleanups.

@@ -28,8 +28,8 @@ pub enum Ask {
     /// Which objects of a region are marked? The region is named by its first address, and has 64 places, 16 bytes apart from there on. The answer is a word:
     /// its bit `i`, counted from the lowest, says whether the object that begins at place `i` is marked. If none begins there, the bit may have any value.
     Marks,
-    /// Which places of a region lie in marked objects, or in none? The answer is a word, as for `Marks`: its bit `i` says what `IsHolderMarked` would be answered about
-    /// the word at place `i`, if a link has it.
+    /// Which places of a region lie in marked objects, or in none? The answer is a word, as for `Marks`: its bit `i` says what `IsHolderMarked` would be
+    /// answered about the word at place `i`, if a link has it.
     Live,
     /// Mark the object to which the word of an ephemeron points, if any, and everything that it reaches. The answer says whether something may have been marked
     /// that wasn't: true is always safe, and costs another round of questions about the ephemerons that still wait.

@@ -316,8 +316,8 @@ impl Regions {
         }
     }
 
-    /// Whether the phase behind a sweep has anything to list: not if all that is noted was told marked. If so, forgets which places are noted: `look` notes them
-    /// again.
+    /// Whether the phase behind a sweep has anything to list: not if all that is noted was told marked. If so, forgets which places are noted: `look` notes
+    /// them again.
     pub(crate) fn lists(&mut self) -> bool
         requires whole { IsTrue self.old.complete → keys_of self.old.told ≡ keys_of self.old.order }
         ensures none { IsFalse result → IsTrue self.old.complete × ((n : ℕ) → IsNoted self.old.order n → IsTrue (is_marked self.old.told n)) × (self.new ≡ self.old) }

@@ -52,8 +52,8 @@ fn is_told<H: Host>(host: &H, ask: Ask, n: Addr) -> bool
     }
 }
 
-/// The same for a host with ephemerons: `MarkValue` marks the value of one. `runs_make_the_pass` requires of its `value` that clearing a word gives no ephemeron another
-/// one (`KeepsValues`).
+/// The same for a host with ephemerons: `MarkValue` marks the value of one. `runs_make_the_pass` requires of its `value` that clearing a word gives no
+/// ephemeron another one (`KeepsValues`).
 pub fn respond_with_values<H: Values>(host: &mut H, ask: Ask, subject: Addr) -> bool
     requires { MayAsk ask subject (graph_of (H.objects host.old) (H.marked host.old)) }
     ensures honest { Answers H.is_exact H.place H.value ask subject (graph_of (H.objects host.old) (H.marked host.old)) result (graph_of (H.objects host.new) (H.marked host.new)) }

@@ -283,7 +283,8 @@ impl Rows {
         self.stuck.clear();
     }
 
-    /// Processes that the host has told a key. Takes time logarithmic in the ephemerons of the index, but for the first key after it was used up, which sorts it.
+    /// Processes that the host has told a key. Takes time logarithmic in the ephemerons of the index, but for the first key after it was used up, which sorts
+    /// it.
     pub(crate) fn tell(&mut self, key: Addr)
         requires room { count_off self.old.off ≤ self.old.room }
         ensures told { TellsOff key self.old.off self.new.off }

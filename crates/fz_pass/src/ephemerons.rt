@@ -188,7 +188,8 @@ impl Ephemerons {
     }
 
     /// Makes the marks whole: marks the value of each ephemeron whose key and holder are marked, with everything that the value reaches, until no more values
-    /// follow. Then marked objects hold nothing that is unmarked, as a pass requires. A host that marks in slices may call it after each slice. Takes no memory.
+    /// follow. Then marked objects hold nothing that is unmarked, as a pass requires. A host that marks in slices may call it after each slice. Takes no
+    /// memory.
     pub fn settle<H: Values>(&mut self, host: &mut H)
         requires closed { IsClosed (H.objects host.old) (H.marked host.old) }
         ensures settled { Settles H.place H.value (H.objects host.old) (IsOfKey self.old.ephemerons) H.is_exact (H.marked host.old) (H.marked host.new) }

@@ -48,8 +48,8 @@ kind_toward true kind = Normal
 kind_toward false kind = kind
 
 module _ (place : ℕ → Option ℕ) (value : Map Object → ℕ → Option ℕ) (objects : Map Object) where
-  -- the roots reach it: it is in the least set that has the objects to which roots point, the children of its members, and the value of each ephemeron whose key
-  -- and holder it has
+  -- the roots reach it: it is in the least set that has the objects to which roots point, the children of its members, and the value of each ephemeron whose
+  -- key and holder it has
   abbrev pub IsReached : List ℕ → State → ℕ → Type 0
   IsReached roots s = sets.Holds place value objects (IsOfKey s.ephemerons) (IsAtRoot objects roots s)
 

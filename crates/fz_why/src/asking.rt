@@ -151,7 +151,8 @@ fn why_unregistered<H: Paths>(
     }
 }
 
-/// Why an object isn't finalized, or why an object isn't gone that has cleanups alone, with a path as evidence. It may be called at any time outside of a pass, and nothing has to be marked.
+/// Why an object isn't finalized, or why an object isn't gone that has cleanups alone, with a path as evidence. It may be called at any time outside of a pass,
+/// and nothing has to be marked.
 ///
 /// Words are as they are once a pass has cleared those of dead short links and of short ephemerons whose keys aren't found. Values of ephemerons count as they
 /// do in a pass. The host has to ensure that registered objects, the targets of links and the keys of ephemerons are its objects.

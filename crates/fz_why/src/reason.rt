@@ -17,8 +17,8 @@ pub enum RootOf {
     HeldData(u64),
 }
 
-/// Why an object isn't finalized, or that it is ready. Each object of a path is a child of the one before, or the value of an ephemeron. In that case the object
-/// before is the ephemeron's key, or the object that contains its word, and the other of these two is retained by the same roots or objects.
+/// Why an object isn't finalized, or that it is ready. Each object of a path is a child of the one before, or the value of an ephemeron. In that case the
+/// object before is the ephemeron's key, or the object that contains its word, and the other of these two is retained by the same roots or objects.
 #[derive(Debug, Drop)]
 pub enum Reason {
     /// It has no finalizer and no entry, and if it has cleanups, no root reaches it.

@@ -263,8 +263,8 @@ impl Paths for Snapshot {
 /// and registered objects reach, with all their words.
 ///
 /// An ephemeron whose word wasn't listed has no value. `None` if a registered object, the target of a short link or the key of a short ephemeron wasn't listed.
-/// Takes time as [`why`] does, and for the registrations, short links and short ephemerons. Fails with `NoMemory` if an allocation fails. Nothing changes in any
-/// case.
+/// Takes time as [`why`] does, and for the registrations, short links and short ephemerons. Fails with `NoMemory` if an allocation fails. Nothing changes in
+/// any case.
 pub fn why_of(
     alloc: Global,
     finalizers: &Finalizers,

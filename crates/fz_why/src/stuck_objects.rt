@@ -145,9 +145,9 @@ fn list(
 /// Lists the registered objects that wait for a ring: those on a ring, and those to which one leads. No pass queues them as long as their words and
 /// registrations stay. Each is listed once, in the order of `Finalizers::iter`.
 ///
-/// Like [`why`](crate::why), it may be called at any time outside of a pass. It takes words and values of ephemerons as `why` does, and requires that registered
-/// objects, the targets of links and the keys of ephemerons are the host's objects. A ring that goes through the value of an ephemeron stays as long as the
-/// ephemeron stays, and its key and the object that contains its word are retained as they are.
+/// Like [`why`](crate::why), it may be called at any time outside of a pass. It takes words and values of ephemerons as `why` does, and requires that
+/// registered objects, the targets of links and the keys of ephemerons are the host's objects. A ring that goes through the value of an ephemeron stays as long
+/// as the ephemeron stays, and its key and the object that contains its word are retained as they are.
 ///
 /// Takes the time of `why` for each unreachable registered object, and memory for each object that is reached. Fails with `NoMemory` if an allocation fails.
 /// Nothing changes in any case.
@@ -170,10 +170,11 @@ pub fn stuck<H: Paths>(
     Ok(objects)
 }
 
-/// Lists the registered objects that wait for a ring, by a copy of their host's heap, as [`stuck`] does. The copy has to have what
-/// [`why_of`](crate::why_of) needs.
+/// Lists the registered objects that wait for a ring, by a copy of their host's heap, as [`stuck`] does. The copy has to have what [`why_of`](crate::why_of)
+/// needs.
 ///
-/// `None` if a registered object, the target of a short link or the key of a short ephemeron wasn't listed. Fails with `NoMemory` if an allocation fails. Nothing changes in any case.
+/// `None` if a registered object, the target of a short link or the key of a short ephemeron wasn't listed. Fails with `NoMemory` if an allocation fails.
+/// Nothing changes in any case.
 pub fn stuck_of(
     alloc: Global,
     finalizers: &Finalizers,

@@ -12,8 +12,8 @@ use std::alloc::Global;
 use std::process::Abort;
 use std::test::*;
 
-/// A graph, its objects and its roots in the order in which they were made, the objects that were given a finalizer or a cleanup, and the entries that were taken and
-/// not finished.
+/// A graph, its objects and its roots in the order in which they were made, the objects that were given a finalizer or a cleanup, and the entries that were
+/// taken and not finished.
 #[derive(Drop)]
 struct Objects {
     asked: Asked,

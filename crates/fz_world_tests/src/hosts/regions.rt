@@ -1,5 +1,5 @@
-//! Finalizers that ask about regions, beside finalizers that ask about each object and each word: both queue the same entries, clear the same words, and mark the
-//! same objects.
+//! Finalizers that ask about regions, beside finalizers that ask about each object and each word: both queue the same entries, clear the same words, and mark
+//! the same objects.
 
 use crate::equal::must_be;
 use crate::hosts::beside::Random;
