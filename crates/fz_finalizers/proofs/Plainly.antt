@@ -1,13 +1,11 @@
 -- A pass that leaves ephemerons out is a pass without them.
-use Rattle.std.proofs.Common.{◌≡◌, ◌∙◌, ℕ, Bool, Option, None, nat_cmp, length, refl, sym, ap, subst}
-use Rattle.std.proofs.lemmas.Option.{none-some}
-use Rattle.std.specs.FinMap.{get, get-empty}
+use Rattle.std.proofs.Common.{◌≡◌, ℕ, Bool, Option, None, length, refl, sym, ap, subst}
 use Rattle.std.specs.FinSet.{contains}
 use Rattle.fz_model.specs.Memory.{points}
 use Rattle.fz_model.specs.State.{Map, Object}
 use Rattle.fz_pass.specs.Flagged.{AreNormal}
-use Rattle.fz_pass.specs.Holds.{Ephemerons, IsOfKey, IsWhole, no_ephemerons}
-use Rattle.fz_pass.specs.Marks.{AreTargets, IsClosed}
+use Rattle.fz_pass.specs.Holds.{Ephemerons, no_ephemerons}
+use Rattle.fz_pass.specs.Marks.{IsClosed}
 use Rattle.fz_pass.specs.Whole.{DecidesWhole}
 use Rattle.fz_pass.proofs.ByPaths.{by_paths}
 use Rattle.fz_finalizers.specs.Follows.{Follows, Pass, next_pass}

@@ -1,6 +1,7 @@
 use Rattle.std.proofs.Common.{◌∙◌, ap, rules}
 use Rattle.fz_finalizers.specs.States.{State}
-use Rattle.fz_finalizers.proofs.Plainly.{passes_back, plain_closed, plain_keys, plain_whole}
+use Rattle.fz_pass.proofs.Plainly.{plain_closed, plain_keys, plain_whole}
+use Rattle.fz_finalizers.proofs.Plainly.{passes_back}
 use Rattle.fz_finalizers.proofs.finalizers.Finalizers.pass.Goals as goal
 
 pub pass_found-passed-requires-clause-short_keys : goal.pass_found-passed-requires-clause-short_keys
