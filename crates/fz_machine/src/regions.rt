@@ -32,6 +32,14 @@ pub(crate) fn region_of(n: Addr) -> Addr
     n - STEP * place_in(n)
 }
 
+/// Whether a region begins at an odd number of words: 1 if it does, and else 0.
+#[inline(always)]
+fn parity_of(region: Addr) -> usize
+    ensures { result < 2 }
+{
+    (region / 8 % 2) as usize
+}
+
 /// The address of a place of a region.
 pub(crate) fn address_of(region: Addr, place: u64) -> Addr
     requires { region + 16 * place < 2 ^ 64 }
@@ -58,8 +66,9 @@ pub struct Noted {
 /// The regions that a sweep asks about, each with a bit for each place where an object, or a word, may lie.
 pub(crate) struct Regions {
     noted: IndexMap<Addr, Noted, AddressHasher>,
-    /// The index at which a region was found last. What is noted next often lies in the same one.
-    last: usize,
+    /// The indices at which regions were found last: of those that begin at an even number of words, and of the others. What is noted next often lies in the
+    /// same one, and words that follow each other lie in two by turns.
+    last: [usize; 2],
     /// Whether all is noted that the sweep is about. If not, it asks about no regions.
     complete: bool,
     /// In an open sweep: how many regions it asks about, the first ones, and of how many of them it was told.
@@ -110,7 +119,7 @@ impl Regions {
     {
         Regions {
             noted: IndexMap::with_hasher(alloc, AddressHasher::new()),
-            last: 0,
+            last: [0; 2],
             complete,
             end: 0,
             heard: 0,
@@ -147,8 +156,9 @@ impl Regions {
         ensures found { IfSome result (λ index. slice_get (keys_of self.now.order) index ≡ Some region) }
         ensures there { is_some result ≡ is_some (lookup (nat_eq region) self.now.order) }
     {
-        if self.is_at(self.last, region) {
-            return Some(self.last);
+        let last = self.last[parity_of(region)];
+        if self.is_at(last, region) {
+            return Some(last);
         }
         self.noted.get_index_of(&region)
     }
@@ -168,7 +178,7 @@ impl Regions {
         let Some(index) = self.index_of(region) else {
             return None;
         };
-        self.last = index;
+        self.last[parity_of(region)] = index;
         let noted = self.noted[index];
         let told = noted.told;
         self.noted[index] = Noted {

@@ -6,7 +6,7 @@ use Rattle.fz_machine.proofs.Noting.{index_found, keys_placed, placed_there, the
 use Rattle.fz_machine.proofs.regions.Regions.index_of.Goals as goal
 
 pub returns-then-is_at-clause-there : goal.returns-then-is_at-clause-there
-returns-then-is_at-clause-there c = sym (there_at c.args.self.now.order c.self.inside.last c.args.region (c.is_at.ensures c.if-is_at.true))
+returns-then-is_at-clause-there c = sym (there_at c.args.self.now.order _ c.args.region (c.is_at.ensures c.if-is_at.true))
 
 pub returns-clause-found : goal.returns-clause-found
 returns-clause-found c =

@@ -17,7 +17,7 @@ returns-in_default-clause-told c = λ whole.
     sym (lacking c.args.self.now.told (region_of c.args.n) (is_some-lookup (nat_eq (region_of c.args.n)) c.args.self.now.told ∙ ap (list_any (nat_eq (region_of c.args.n))) whole ∙ sym (is_some-lookup (nat_eq (region_of c.args.n)) c.args.self.now.order)
     ∙ sym (ap (λ k. is_some (lookup (nat_eq k) c.args.self.now.order)) c.region_of-region.ensures) ∙ sym c.index_of.ensures.there ∙ ap is_some c.in_default.is))
 
-module _ (c : goal.After-self-2-1) where
+module _ (c : goal.After-self-1) where
   abbrev region : ℕ
   region = c.region_of-region.result
 
