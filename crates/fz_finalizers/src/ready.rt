@@ -106,6 +106,7 @@ impl Ready {
     }
 
     /// Reserves room for `most` further entries. Before it allocates, it reuses the memory of finished entries.
+    #[inline(always)]
     pub(crate) fn reserve(&mut self, most: usize) -> Result<(), Refused>
         requires { most ≤ 2 ^ 50 }
         ensures refused { IfErr result (λ r. r ≡ Refused.NoMemory) }

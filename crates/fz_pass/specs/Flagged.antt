@@ -1,7 +1,7 @@
 -- A pass over one table, in which a flag says of each registered object whether it is of the kind unreachable. Objects of this kind reach others as normal ones
 -- do, and form a second tier: they are queued after the others of a pass, and only if no other unreachable registered object reaches them, whatever its kind
 -- (GC_register_finalizer_unreachable of gc.h). Everything else is the model's.
--- code: fz_pass/src/pass.rt
+-- code: fz_pass/src/pass.rt, whole.rt
 use Rattle.std.specs.Prelude.{◌≡◌, ◌≢◌, ◌⊎◌, ℕ, ◌+◌, Bool, true, false, List, ◌++◌, length, map, Option, Some, Contains, All, AllPairs, IsTrue, IsFalse}
 use Rattle.std.specs.FinMap.{get, len}
 use Rattle.fz_model.specs.declared.kinds.RegKind.TheVariants.{Normal}
