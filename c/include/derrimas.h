@@ -37,7 +37,7 @@
  *
  * A call takes constant time, except for these. They take time proportional to
  * - the heap: derrimas_open, the first derrimas_register of a world, and its first derrimas_link of each kind;
- * - the slots, the registrations and the unfinished entries, and a few words of bits for each block: derrimas_begin;
+ * - the registrations and the unfinished entries, and a few words of bits for each block: derrimas_begin;
  * - the same, the links, and the words of what is scanned: derrimas_collect and derrimas_pause. derrimas_collect scans
  *   all objects that stay. derrimas_pause scans those that derrimas_mark hasn't scanned, those with a word in a block
  *   that was written since derrimas_begin, and those that only finalizers retain;
