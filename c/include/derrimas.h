@@ -36,8 +36,11 @@
  *   made. In any other child each copy may be used and destroyed; parent and child then finalize the same objects.
  *
  * A call takes constant time, except for these. They take time proportional to
- * - the heap: derrimas_open, derrimas_begin, derrimas_count, and the first derrimas_register of a world;
- * - the live objects, and a word of bits for each block: derrimas_collect and derrimas_pause;
+ * - the heap: derrimas_open, the first derrimas_register of a world, and its first derrimas_link of each kind;
+ * - the registrations and the unfinished entries, and a few words of bits for each block: derrimas_begin;
+ * - the same, the links, and the words of what is scanned: derrimas_collect and derrimas_pause. derrimas_collect scans
+ *   all objects that stay. derrimas_pause scans those that derrimas_mark hasn't scanned, those with a word in a block
+ *   that was written since derrimas_begin, and those that only finalizers retain;
  * - the budget, and the words of what is scanned: derrimas_mark;
  * - the words of the object, and the blocks if it needs a new one: derrimas_alloc; derrimas_alloc_or_collect adds a
  *   collection if there is no space;
