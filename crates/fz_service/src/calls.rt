@@ -273,7 +273,7 @@ impl<O: Opening> Locked<O> {
             .move_link(which, frame, slot, offset, to_frame, to_slot, to_offset)
     }
 
-    /// Opens a collection cycle. Takes time proportional to the heap.
+    /// Opens a collection cycle. Takes time as `World::begin` does.
     ///
     /// Fails with, in this order: `CycleOpen`, `Exhausted` at the 2^48th pass.
     pub fn begin(&mut self) -> Result<(), Refusal>
@@ -331,7 +331,7 @@ impl<O: Opening> Locked<O> {
         self.world.close()
     }
 
-    /// Ends the cycle with a remark and a pass, and sends what it queued. Takes time proportional to the heap.
+    /// Ends the cycle with a remark and a pass, and sends what it queued. Takes time as `World::pause` does.
     ///
     /// Fails with `NoCycle` if no cycle is open.
     pub fn pause(&mut self) -> Result<Passed, Refusal>
@@ -348,7 +348,7 @@ impl<O: Opening> Locked<O> {
         Ok(passed)
     }
 
-    /// A whole collection in one step, which sends what it queued. Takes time proportional to the heap.
+    /// A whole collection in one step, which sends what it queued. Takes time as `World::collect` does.
     ///
     /// Fails with, in this order: `CycleOpen`, `Exhausted` at the 2^48th pass.
     pub fn collect(&mut self) -> Result<Passed, Refusal>

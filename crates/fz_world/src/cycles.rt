@@ -22,7 +22,8 @@ use fz_model::{COUNT_LIMIT, Passed, Progress, Refusal};
 
 #[tactic(auto, using(crate::proofs::Does::does_refused))]
 impl World {
-    /// Opens a collection cycle: marks what the roots point to (the initial mark), and tracks dirty pages from now on. Takes time proportional to the heap.
+    /// Opens a collection cycle: marks what the roots point to (the initial mark), and tracks dirty pages from now on. Takes time proportional to the blocks,
+    /// the registrations and the unfinished entries.
     ///
     /// Fails with, in this order: `CycleOpen`, `Exhausted` at the 2^48th pass.
     pub fn begin(&mut self) -> Result<(), Refusal>
@@ -60,7 +61,8 @@ impl World {
     }
 
     /// Ends the cycle: marks from the current roots and from marked objects on dirty pages (the remark), and carries out a pass. Takes time proportional to
-    /// the heap.
+    /// the blocks, the registrations, the links and the unfinished entries, and to the words that it scans: those of marked objects that `mark` didn't scan or
+    /// that are on dirty pages, and of objects that only finalizers retain.
     ///
     /// Fails with `NoCycle` if no cycle is open.
     pub fn pause(&mut self) -> Result<Passed, Refusal>
@@ -79,7 +81,8 @@ impl World {
         Ok(self.pass())
     }
 
-    /// A whole collection in one step, as `GC_gcollect`: marks what is reachable, and carries out a pass. Takes time proportional to the heap.
+    /// A whole collection in one step, as `GC_gcollect`: marks what is reachable, and carries out a pass. Takes time proportional to the blocks, the
+    /// registrations, the links and the unfinished entries, and to the words of the objects that stay.
     ///
     /// Fails with, in this order: `CycleOpen`, `Exhausted` at the 2^48th pass.
     pub fn collect(&mut self) -> Result<Passed, Refusal>
