@@ -648,22 +648,7 @@ code derrimas_finalizers_count(const derrimas_finalizers *finalizers, derrimas_f
 
 /* ---- texts: c/build writes finalizers_codes.h from the codes of derrimas_finalizers.h and their comments */
 
-const char *derrimas_finalizers_name(derrimas_finalizers_code code)
-{
-    switch (code) {
-#define CODE(constant, name, sentence) case constant: return name;
 #include "finalizers_codes.h"
-#undef CODE
-    default: return "?";
-    }
-}
 
-const char *derrimas_finalizers_strerror(derrimas_finalizers_code code)
-{
-    switch (code) {
-#define CODE(constant, name, sentence) case constant: return sentence;
-#include "finalizers_codes.h"
-#undef CODE
-    default: return "no code of derrimas_finalizers.h";
-    }
-}
+const char *derrimas_finalizers_name(derrimas_finalizers_code code) { return name_of(code); }
+const char *derrimas_finalizers_strerror(derrimas_finalizers_code code) { return sentence_of(code); }
