@@ -1,5 +1,5 @@
-/* The library's calls as they are, for wrong libraries: each edit of `wrong` changes a line here or in finalize.c. The linker's --wrap puts these calls
- * between the two.
+/* The library's calls as they are, for wrong libraries: each edit of `wrong` changes a line here or in finalize.c, or for c/lua/run in lgc.c. The linker's --wrap
+ * puts these calls between the two.
  */
 #include "derrimas_finalizers.h"
 
@@ -40,8 +40,10 @@ static void alter(derrimas_question *question)
     (void)question;
 }
 
-static uint64_t altered(derrimas_ask ask, uint64_t count, uint64_t answers)
+/* The answers to the question before: so many objects, words or regions were asked about. */
+static uint64_t altered(derrimas_question *question, derrimas_ask ask, uint64_t count, uint64_t answers)
 {
+    (void)question;
     (void)ask;
     (void)count;
     return answers;
@@ -67,7 +69,7 @@ __attribute__((weak)) code __wrap_derrimas_finalizers_next(handle *finalizers, u
     do {
         for (uint64_t n = 0; asked > 0 && (ask == DERRIMAS_ASK_MARKS || ask == DERRIMAS_ASK_LIVE) && n < count; n++)
             question->marks[n] = altered_word(ask, asked - 1, question->marks[n]);
-        next = __real_derrimas_finalizers_next(finalizers, altered(ask, count, answers), question, passed);
+        next = __real_derrimas_finalizers_next(finalizers, altered(question, ask, count, answers), question, passed);
         asked = next == DERRIMAS_FINALIZERS_OK ? asked + 1 : 0;
         ask = question->ask;
         count = question->count;

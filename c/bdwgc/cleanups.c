@@ -63,10 +63,7 @@ int main(void)
     unsigned lines;
     int on_stack;
 
-    GC_INIT();
-    GC_set_finalize_on_demand(1);
-    GC_set_java_finalization(1);
-    GC_disable();
+    open_bdwgc();
     objects = GC_MALLOC_UNCOLLECTABLE(OBJECTS * sizeof *objects);
     words = GC_MALLOC_ATOMIC_UNCOLLECTABLE(OBJECTS * sizeof *words);
     numbers = GC_MALLOC_ATOMIC_UNCOLLECTABLE(OBJECTS * sizeof *numbers);

@@ -146,10 +146,7 @@ int main(void)
 {
     size_t waited, size;
 
-    GC_INIT();
-    GC_set_finalize_on_demand(1);
-    GC_set_java_finalization(1);
-    GC_disable();
+    open_bdwgc();
     objects = GC_malloc_uncollectable(OBJECTS * sizeof *objects);
     make_all();
     size = GC_size(objects[0]); /* with what the debugging of a build adds */

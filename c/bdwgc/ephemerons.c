@@ -272,10 +272,7 @@ APART static void make_tagged(uintptr_t n)
 
 static void opens(void)
 {
-    GC_INIT();
-    GC_set_finalize_on_demand(1);
-    GC_set_java_finalization(1);
-    GC_disable();
+    open_bdwgc();
     keys = GC_MALLOC_ATOMIC_UNCOLLECTABLE(ROWS * sizeof *keys);
     values = GC_MALLOC_ATOMIC_UNCOLLECTABLE(ROWS * sizeof *values);
     watched = GC_MALLOC_ATOMIC_UNCOLLECTABLE(ROWS * sizeof *watched);

@@ -78,11 +78,8 @@ static void play(const char *name, GC_finalization_proc proc, void (*leave)(void
 
 int main(void)
 {
-    GC_INIT();
-    GC_set_finalize_on_demand(1);
-    GC_set_java_finalization(1);
+    open_bdwgc();
     GC_set_warn_proc(GC_ignore_warn_proc);
-    GC_disable();
     words = GC_MALLOC_ATOMIC_UNCOLLECTABLE(2 * OBJECTS * sizeof *words);
     play("longjmp", jump, jump_out);
     play("pthread_exit", end_thread, end_threads);

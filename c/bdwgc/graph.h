@@ -1,19 +1,12 @@
-/* What the programs here share: chance, processes of their own, and collections that find nothing of earlier calls on the stack. */
+/* What the programs here share, beside what those of c/compare have too: chance, and the lines of a dump. */
 #ifndef GRAPH_H
 #define GRAPH_H
 
-#include <gc/gc.h>
+#include "../compare/apart.h"
 #include <gc/javaxfc.h>
 #include <stdbool.h>
 #include <stdint.h>
-#include <stdio.h>
-#include <stdlib.h>
 #include <string.h>
-#include <sys/wait.h>
-#include <unistd.h>
-
-/* Of a procedure that handles objects, below one that collects: so nothing of it is left in a frame or a register that bdwgc scans. */
-#define APART __attribute__((noinline))
 
 typedef void (*registering)(void *object, GC_finalization_proc proc, void *cd, GC_finalization_proc *old_proc, void **old_cd);
 
@@ -25,29 +18,6 @@ static inline unsigned chance(unsigned below)
     seed ^= seed >> 7;
     seed ^= seed << 17;
     return (unsigned)((seed >> 20) % below);
-}
-
-static inline void fail(const char *what)
-{
-    fprintf(stderr, "%s failed\n", what);
-    exit(1);
-}
-
-APART static void scrub(void)
-{
-    volatile char old[65536];
-
-    for (unsigned n = 0; n < sizeof old; n++)
-        old[n] = 0;
-}
-
-APART __attribute__((unused)) static void collect(void)
-{
-    scrub();
-    GC_enable();
-    GC_gcollect();
-    GC_disable();
-    scrub();
 }
 
 /* How many lines GC_dump_finalization prints. */
@@ -69,23 +39,6 @@ static inline unsigned dumped_lines(void)
     close(out);
     fclose(file);
     return lines;
-}
-
-/* Calls the procedure in a process of its own, since a ring that is registered stays for good. */
-static inline void in_a_process(void (*procedure)(void))
-{
-    pid_t child;
-    int status;
-
-    fflush(stdout);
-    child = fork();
-    if (child == 0) {
-        procedure();
-        fflush(stdout);
-        _exit(0);
-    }
-    if (child < 0 || waitpid(child, &status, 0) != child || status != 0)
-        fail("a process");
 }
 
 #endif

@@ -75,11 +75,8 @@ static unsigned zeros(unsigned at)
 
 int main(void)
 {
-    GC_INIT();
-    GC_set_finalize_on_demand(1);
-    GC_set_java_finalization(1);
+    open_bdwgc();
     GC_set_warn_proc(GC_ignore_warn_proc);
-    GC_disable();
     live = GC_MALLOC_UNCOLLECTABLE(sizeof *live);
     words = GC_MALLOC_ATOMIC_UNCOLLECTABLE(2 * (LISTS + OLD + 1) * sizeof *words);
     make_old();

@@ -169,10 +169,7 @@ static void play(void)
 
 int main(void)
 {
-    GC_INIT();
-    GC_set_finalize_on_demand(1);
-    GC_set_java_finalization(1);
-    GC_disable();
+    open_bdwgc();
     objects = GC_MALLOC_UNCOLLECTABLE(OBJECTS * sizeof *objects);
     number = calloc(OBJECTS, sizeof *number);
     links = calloc(OBJECTS, sizeof *links);

@@ -64,11 +64,8 @@ int main(void)
 {
     unsigned wrong = 0;
 
-    GC_INIT();
-    GC_set_finalize_on_demand(1);
-    GC_set_java_finalization(1);
+    open_bdwgc();
     GC_set_warn_proc(note);
-    GC_disable();
     in_use = GC_MALLOC(sizeof(void *));
     for (unsigned n = 0; n < RINGS; n++)
         make();

@@ -6,40 +6,23 @@
 #ifndef LAYER_H
 #define LAYER_H
 
+#include "apart.h"
 #include <stdbool.h>
 #include <stdint.h>
-#include <stdio.h>
-#include <stdlib.h>
-
-/* Of a procedure that handles objects, below one that collects: so nothing of it is left in a frame or a register that bdwgc scans. */
-#define APART __attribute__((noinline))
 
 enum { ROOTS = 128, NORMAL = 0, IGNORE_SELF = 1, NO_ORDER = 2 };
 
 /* A finalizer: hold puts its object into a root. */
 typedef void (*finalizer)(uint64_t cd);
 
-static void fail(const char *what)
-{
-    fprintf(stderr, "%s failed\n", what);
-    exit(1);
-}
-
 #ifdef BDWGC
-#include <gc/gc.h>
-#include <sys/wait.h>
-#include <unistd.h>
-
 static void **roots;
 static void *current;
 
 static inline void layer_open(void)
 {
-    GC_INIT();
-    GC_set_finalize_on_demand(1);
-    GC_set_java_finalization(1); /* what a picked no-order object leads to is kept, too */
+    open_bdwgc();
     GC_set_warn_proc(GC_ignore_warn_proc);
-    GC_disable();
     roots = GC_malloc_uncollectable(ROOTS * sizeof *roots);
     if (!roots)
         fail("open");
@@ -48,21 +31,7 @@ static inline void layer_open(void)
 static inline void layer_close(void) { GC_free(roots); }
 
 /* Calls the procedure where nothing of earlier calls is left: bdwgc has no second world, so another process does. */
-static inline void layer_apart(void (*procedure)(void))
-{
-    pid_t child;
-    int status;
-
-    fflush(stdout);
-    child = fork();
-    if (child == 0) {
-        procedure();
-        fflush(stdout);
-        _exit(0);
-    }
-    if (child < 0 || waitpid(child, &status, 0) != child || status != 0)
-        fail("a process");
-}
+static inline void layer_apart(void (*procedure)(void)) { in_a_process(procedure); }
 
 static inline void new_object(int at, uint64_t size, bool is_atomic)
 {
@@ -131,28 +100,6 @@ static inline int move_link(bool is_long, int at, uint64_t offset, uint64_t to)
     void **place = (void **)roots[at] + offset, **other = (void **)roots[at] + to;
 
     return is_long ? GC_move_long_link(place, other) : GC_move_disappearing_link(place, other);
-}
-
-APART static void scrub(void)
-{
-    volatile char old[65536];
-
-    for (unsigned n = 0; n < sizeof old; n++)
-        old[n] = 0;
-}
-
-APART static void collect_only(void)
-{
-    GC_enable();
-    GC_gcollect();
-    GC_disable();
-}
-
-APART static void collect(void)
-{
-    scrub();
-    collect_only();
-    scrub();
 }
 
 static inline uint64_t invoke(void) { return (uint64_t)GC_invoke_finalizers(); }

@@ -338,50 +338,31 @@ public:
     /* Calls `visit` with each root of the sort. Nothing may change during a walk, so `visit` makes only calls that are const. */
     template <typename Visit> void roots(root sort, Visit visit) const
     {
-        std::uint64_t some[PART], from = 0;
-        for (std::size_t count; found(derrimas_finalizers_roots(&handle_, static_cast<derrimas_finalizers_root>(sort), &from, some, PART, &count));)
-            for (std::size_t n = 0; n < count; n++)
-                visit(some[n]);
+        walk<std::uint64_t>(visit, [&](auto... part) { return derrimas_finalizers_roots(&handle_, static_cast<derrimas_finalizers_root>(sort), part...); });
     }
 
     /* The same with each registration. */
     template <typename Visit> void registrations(Visit visit) const
     {
-        registration some[PART];
-        std::uint64_t from = 0;
-        for (std::size_t count; found(derrimas_finalizers_registrations(&handle_, &from, some, PART, &count));)
-            for (std::size_t n = 0; n < count; n++)
-                visit(some[n]);
+        walk<registration>(visit, [&](auto... part) { return derrimas_finalizers_registrations(&handle_, part...); });
     }
 
     /* The same with each link of the kind. */
     template <typename Visit> void links(link_kind kind, Visit visit) const
     {
-        linked some[PART];
-        std::uint64_t from = 0;
-        for (std::size_t count; found(derrimas_finalizers_links(&handle_, of(kind), &from, some, PART, &count));)
-            for (std::size_t n = 0; n < count; n++)
-                visit(some[n]);
+        walk<linked>(visit, [&](auto... part) { return derrimas_finalizers_links(&handle_, of(kind), part...); });
     }
 
     /* The same with each ephemeron of the kind. */
     template <typename Visit> void ephemerons(link_kind kind, Visit visit) const
     {
-        linked some[PART];
-        std::uint64_t from = 0;
-        for (std::size_t count; found(derrimas_finalizers_ephemerons(&handle_, of(kind), &from, some, PART, &count));)
-            for (std::size_t n = 0; n < count; n++)
-                visit(some[n]);
+        walk<linked>(visit, [&](auto... part) { return derrimas_finalizers_ephemerons(&handle_, of(kind), part...); });
     }
 
     /* The same with each cleanup. */
     template <typename Visit> void cleanups(Visit visit) const
     {
-        cleanup some[PART];
-        std::uint64_t from = 0;
-        for (std::size_t count; found(derrimas_finalizers_cleanups(&handle_, &from, some, PART, &count));)
-            for (std::size_t n = 0; n < count; n++)
-                visit(some[n]);
+        walk<cleanup>(visit, [&](auto... part) { return derrimas_finalizers_cleanups(&handle_, part...); });
     }
 
     /* The cleanup with this number. */
@@ -443,6 +424,16 @@ public:
 
 private:
     static constexpr std::size_t PART = 64; /* of a walk */
+
+    /* Calls `visit` with each item of a walk, of which `call` copies a part. */
+    template <typename Item, typename Visit, typename Call> static void walk(Visit &visit, Call call)
+    {
+        Item some[PART];
+        std::uint64_t from = 0;
+        for (std::size_t count; found(call(&from, some, PART, &count));)
+            for (std::size_t n = 0; n < count; n++)
+                visit(some[n]);
+    }
 
     /* A host that lists its heap for the library. What a member throws is kept, since no exception may leave the library. */
     template <typename Host> struct listing {

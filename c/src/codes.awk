@@ -1,7 +1,8 @@
-# Writes the codes of a header as CODE(constant, name, sentence), a line each: DERRIMAS_BAD_SLOT, "BadSlot", and the comment beside it.
+# Writes functions over the codes of a header: name_of, which is "BadSlot" of DERRIMAS_BAD_SLOT, and sentence_of, which is the comment beside that.
 /^typedef enum derrimas_(finalizers_)?code/ {
     inside = 1
-    prefix = toupper($3)
+    type = $3
+    prefix = toupper(type)
     sub(/CODE$/, "", prefix)
 }
 /^} derrimas_/ { inside = 0 }
@@ -14,5 +15,16 @@ inside && match($0, prefix "[A-Z_]+ = ") {
     name = ""
     for (n = 1; n <= count; n++)
         name = name substr(words[n], 1, 1) tolower(substr(words[n], 2))
-    printf "CODE(%s, \"%s\", \"%s\")\n", constant, name, sentence
+    names = names of(constant, name)
+    sentences = sentences of(constant, sentence)
+}
+END {
+    header = FILENAME
+    sub(/^.*\//, "", header)
+    write("name_of", names, "?")
+    write("sentence_of", sentences, "no code of " header)
+}
+function of(constant, text) { return sprintf("    case %s: return \"%s\";\n", constant, text) }
+function write(call, cases, other) {
+    printf "static const char *%s(%s code)\n{\n    switch (code) {\n%s    default: return \"%s\";\n    }\n}\n", call, type, cases, other
 }

@@ -270,26 +270,10 @@ void derrimas_sample(derrimas_samples *samples) { fz_sample(samples); }
 
 /* ---- texts: c/build writes codes.h from the codes of derrimas.h and their comments */
 
-const char *derrimas_name(derrimas_code code)
-{
-    switch (code) {
-#define CODE(constant, name, sentence) case constant: return name;
 #include "codes.h"
-#undef CODE
-    default: return "?";
-    }
-}
 
-const char *derrimas_strerror(derrimas_code code)
-{
-    switch (code) {
-#define CODE(constant, name, sentence) case constant: return sentence;
-#include "codes.h"
-#undef CODE
-    default: return "no code of derrimas.h";
-    }
-}
-
+const char *derrimas_name(derrimas_code code) { return name_of(code); }
+const char *derrimas_strerror(derrimas_code code) { return sentence_of(code); }
 const char *derrimas_version(void) { return DERRIMAS_VERSION; }
 
 /* ---- finalizers that are C procedures */

@@ -258,8 +258,11 @@ static code answered(code it, uint8_t found, derrimas_finalizers_linked *answer)
     return it;
 }
 
-code derrimas_finalizers_link(derrimas_finalizers *finalizers, derrimas_finalizers_link_kind kind, uint64_t word, uint64_t target,
-                              derrimas_finalizers_linked *answer)
+typedef uint8_t call_about_links(derrimas_finalizers *, bool is_long, uint64_t word, uint64_t other, uint8_t *found);
+
+/* A call about links or ephemerons that may take memory, by its export. */
+static code linked_by(call_about_links *call, derrimas_finalizers *finalizers, derrimas_finalizers_link_kind kind, uint64_t word, uint64_t other,
+                      derrimas_finalizers_linked *answer)
 {
     uint8_t found = 0;
     code it;
@@ -267,8 +270,14 @@ code derrimas_finalizers_link(derrimas_finalizers *finalizers, derrimas_finalize
     if (!is_links(kind))
         return DERRIMAS_FINALIZERS_BAD_KIND;
     current = &finalizers->allocator;
-    it = after_memory(fz_machine_link(finalizers, kind == DERRIMAS_FINALIZERS_LONG, word, target, &found));
+    it = after_memory(call(finalizers, kind == DERRIMAS_FINALIZERS_LONG, word, other, &found));
     return answered(it, found, answer);
+}
+
+code derrimas_finalizers_link(derrimas_finalizers *finalizers, derrimas_finalizers_link_kind kind, uint64_t word, uint64_t target,
+                              derrimas_finalizers_linked *answer)
+{
+    return linked_by(fz_machine_link, finalizers, kind, word, target, answer);
 }
 
 code derrimas_finalizers_unlink(derrimas_finalizers *finalizers, derrimas_finalizers_link_kind kind, uint64_t word, bool *was)
@@ -283,27 +292,13 @@ code derrimas_finalizers_unlink(derrimas_finalizers *finalizers, derrimas_finali
 code derrimas_finalizers_move_link(derrimas_finalizers *finalizers, derrimas_finalizers_link_kind kind, uint64_t word, uint64_t to,
                                    derrimas_finalizers_linked *answer)
 {
-    uint8_t found = 0;
-    code it;
-
-    if (!is_links(kind))
-        return DERRIMAS_FINALIZERS_BAD_KIND;
-    current = &finalizers->allocator;
-    it = after_memory(fz_machine_move_link(finalizers, kind == DERRIMAS_FINALIZERS_LONG, word, to, &found));
-    return answered(it, found, answer);
+    return linked_by(fz_machine_move_link, finalizers, kind, word, to, answer);
 }
 
 code derrimas_finalizers_ephemeron(derrimas_finalizers *finalizers, derrimas_finalizers_link_kind kind, uint64_t word, uint64_t key,
                                    derrimas_finalizers_linked *answer)
 {
-    uint8_t found = 0;
-    code it;
-
-    if (!is_links(kind))
-        return DERRIMAS_FINALIZERS_BAD_KIND;
-    current = &finalizers->allocator;
-    it = after_memory(fz_machine_ephemeron(finalizers, kind == DERRIMAS_FINALIZERS_LONG, word, key, &found));
-    return answered(it, found, answer);
+    return linked_by(fz_machine_ephemeron, finalizers, kind, word, key, answer);
 }
 
 code derrimas_finalizers_end_ephemeron(derrimas_finalizers *finalizers, uint64_t word, bool *was)
@@ -653,22 +648,7 @@ code derrimas_finalizers_count(const derrimas_finalizers *finalizers, derrimas_f
 
 /* ---- texts: c/build writes finalizers_codes.h from the codes of derrimas_finalizers.h and their comments */
 
-const char *derrimas_finalizers_name(derrimas_finalizers_code code)
-{
-    switch (code) {
-#define CODE(constant, name, sentence) case constant: return name;
 #include "finalizers_codes.h"
-#undef CODE
-    default: return "?";
-    }
-}
 
-const char *derrimas_finalizers_strerror(derrimas_finalizers_code code)
-{
-    switch (code) {
-#define CODE(constant, name, sentence) case constant: return sentence;
-#include "finalizers_codes.h"
-#undef CODE
-    default: return "no code of derrimas_finalizers.h";
-    }
-}
+const char *derrimas_finalizers_name(derrimas_finalizers_code code) { return name_of(code); }
+const char *derrimas_finalizers_strerror(derrimas_finalizers_code code) { return sentence_of(code); }

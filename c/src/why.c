@@ -154,32 +154,24 @@ static code list_cleanups(walk *it)
     return DERRIMAS_FINALIZERS_OK;
 }
 
-static code list_targets(walk *it)
+typedef code walking(const derrimas_finalizers *, derrimas_finalizers_link_kind, uint64_t *, derrimas_finalizers_link_at *, size_t, size_t *);
+
+/* The targets of short links, or the keys of short ephemerons. */
+static code list_short(walk *it, walking *part)
 {
     derrimas_finalizers_link_at some[PART];
     uint64_t from = 0;
     size_t count;
 
-    while (derrimas_finalizers_links(it->finalizers, DERRIMAS_FINALIZERS_SHORT, &from, some, PART, &count) == DERRIMAS_FINALIZERS_OK)
+    while (part(it->finalizers, DERRIMAS_FINALIZERS_SHORT, &from, some, PART, &count) == DERRIMAS_FINALIZERS_OK)
         for (size_t n = 0; n < count; n++)
             if (list_later(it, some[n].target) != DERRIMAS_FINALIZERS_OK)
                 return DERRIMAS_FINALIZERS_NO_MEMORY;
     return DERRIMAS_FINALIZERS_OK;
 }
 
-/* The keys of short ephemerons. */
-static code list_keys(walk *it)
-{
-    derrimas_finalizers_link_at some[PART];
-    uint64_t from = 0;
-    size_t count;
-
-    while (derrimas_finalizers_ephemerons(it->finalizers, DERRIMAS_FINALIZERS_SHORT, &from, some, PART, &count) == DERRIMAS_FINALIZERS_OK)
-        for (size_t n = 0; n < count; n++)
-            if (list_later(it, some[n].target) != DERRIMAS_FINALIZERS_OK)
-                return DERRIMAS_FINALIZERS_NO_MEMORY;
-    return DERRIMAS_FINALIZERS_OK;
-}
+static code list_targets(walk *it) { return list_short(it, derrimas_finalizers_links); }
+static code list_keys(walk *it) { return list_short(it, derrimas_finalizers_ephemerons); }
 
 static code list_entries(walk *it)
 {

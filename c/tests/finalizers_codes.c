@@ -80,13 +80,17 @@ uint8_t fz_machine_move_ephemeron(derrimas_finalizers *f, uint64_t word, uint64_
 
 uint8_t fz_machine_key_marked(derrimas_finalizers *f, uint64_t key) { return noted(NULL, 0, f == &finalizers, key, 5, 0, 0); }
 
+/* The number of a cleanup, or of entries that are queued, if the call was accepted. */
+static uint8_t told_number(uint8_t code, uint64_t *place, uint64_t told)
+{
+    if (code == DERRIMAS_FINALIZERS_OK)
+        *place = told;
+    return code;
+}
+
 uint8_t fz_machine_add_cleanup(derrimas_finalizers *f, uint64_t object, bool is_long, uint64_t proc, uint64_t cd, uint8_t rank, uint64_t *place)
 {
-    uint8_t code = noted(place, sizeof *place, object, is_long, proc, cd, rank);
-
-    if (code == DERRIMAS_FINALIZERS_OK)
-        *place = 24 + (f == &finalizers);
-    return code;
+    return told_number(noted(place, sizeof *place, object, is_long, proc, cd, rank), place, 24 + (f == &finalizers));
 }
 
 uint8_t fz_machine_cancel(derrimas_finalizers *f, uint64_t cleanup, derrimas_finalizers_old *place)
@@ -110,22 +114,14 @@ uint8_t fz_machine_next(derrimas_finalizers *f, uint64_t answers, derrimas_quest
     return code;
 }
 
-/* So many entries are queued, if the call was accepted. */
-static uint8_t told_queued(uint8_t code, uint64_t *queued, uint64_t count)
-{
-    if (code == DERRIMAS_FINALIZERS_OK)
-        *queued = count;
-    return code;
-}
-
 uint8_t fz_machine_queue_all(derrimas_finalizers *f, uint64_t *queued)
 {
-    return told_queued(noted(queued, sizeof *queued, f == &finalizers, 0, 0, 0, 0), queued, 5);
+    return told_number(noted(queued, sizeof *queued, f == &finalizers, 0, 0, 0, 0), queued, 5);
 }
 
 uint8_t fz_machine_queue_cleanups(derrimas_finalizers *f, uint64_t *queued)
 {
-    return told_queued(noted(queued, sizeof *queued, f == &finalizers, 1, 0, 0, 0), queued, 7);
+    return told_number(noted(queued, sizeof *queued, f == &finalizers, 1, 0, 0, 0), queued, 7);
 }
 
 uint8_t fz_machine_take(derrimas_finalizers *f, derrimas_finalizers_entry *entry) { return noted(entry, sizeof *entry, f == &finalizers, 1, 0, 0, 0); }

@@ -19,6 +19,19 @@ static uint64_t some_object(uint64_t n) { return object_at(n * 7919 % size); }
 
 #define COST __attribute__((noinline)) static void
 
+/* A walk over all that there is of these, in parts whose items have this type. */
+#define WALKING(what, type, ...)                                                                                                              \
+    COST cost_walking_##what(void)                                                                                                            \
+    {                                                                                                                                         \
+        type some[PART];                                                                                                                      \
+        uint64_t from = 0;                                                                                                                    \
+        size_t count;                                                                                                                         \
+                                                                                                                                              \
+        while (derrimas_finalizers_##what(&finalizers, __VA_ARGS__, some, PART, &count) == DERRIMAS_FINALIZERS_OK)                            \
+            continue;                                                                                                                         \
+        wrong += from != size;                                                                                                                \
+    }
+
 COST cost_registering(void)
 {
     for (uint64_t n = 0; n < size; n++)
@@ -47,27 +60,8 @@ COST cost_finding_targets(void)
         wrong += derrimas_finalizers_target(&finalizers, DERRIMAS_FINALIZERS_LONG, some_object(n), &target) != DERRIMAS_FINALIZERS_OK;
 }
 
-COST cost_walking_registrations(void)
-{
-    derrimas_finalizers_registration_at some[PART];
-    uint64_t from = 0;
-    size_t count;
-
-    while (derrimas_finalizers_registrations(&finalizers, &from, some, PART, &count) == DERRIMAS_FINALIZERS_OK)
-        continue;
-    wrong += from != size;
-}
-
-COST cost_walking_links(void)
-{
-    derrimas_finalizers_link_at some[PART];
-    uint64_t from = 0;
-    size_t count;
-
-    while (derrimas_finalizers_links(&finalizers, DERRIMAS_FINALIZERS_LONG, &from, some, PART, &count) == DERRIMAS_FINALIZERS_OK)
-        continue;
-    wrong += from != size;
-}
+WALKING(registrations, derrimas_finalizers_registration_at, &from)
+WALKING(links, derrimas_finalizers_link_at, DERRIMAS_FINALIZERS_LONG, &from)
 
 COST cost_walking_roots(void)
 {
@@ -100,16 +94,7 @@ COST cost_finding_keys(void)
         wrong += derrimas_finalizers_key(&finalizers, some_object(n), NULL, &key) != DERRIMAS_FINALIZERS_OK;
 }
 
-COST cost_walking_ephemerons(void)
-{
-    derrimas_finalizers_link_at some[PART];
-    uint64_t from = 0;
-    size_t count;
-
-    while (derrimas_finalizers_ephemerons(&finalizers, DERRIMAS_FINALIZERS_LONG, &from, some, PART, &count) == DERRIMAS_FINALIZERS_OK)
-        continue;
-    wrong += from != size;
-}
+WALKING(ephemerons, derrimas_finalizers_link_at, DERRIMAS_FINALIZERS_LONG, &from)
 
 /* Their numbers follow one another. */
 COST cost_adding(void)
@@ -127,16 +112,7 @@ COST cost_finding_cleanups(void)
         wrong += derrimas_finalizers_cleanup(&finalizers, next_number - 1 - n * 7919 % size, &it) != DERRIMAS_FINALIZERS_OK;
 }
 
-COST cost_walking_cleanups(void)
-{
-    derrimas_finalizers_cleanup_at some[PART];
-    uint64_t from = 0;
-    size_t count;
-
-    while (derrimas_finalizers_cleanups(&finalizers, &from, some, PART, &count) == DERRIMAS_FINALIZERS_OK)
-        continue;
-    wrong += from != size;
-}
+WALKING(cleanups, derrimas_finalizers_cleanup_at, &from)
 
 COST cost_cancelling(void)
 {

@@ -16,10 +16,10 @@ below 256: of other numbers the lowest 64 or 8 bits count. A refused call raises
 time. The library is libderrimas.so.1: that of the package, or the file that the variable DERRIMAS names. The module derrimas.finalizers is
 derrimas_finalizers.h, for a heap of your own."""
 from __future__ import annotations
-import contextlib, ctypes, enum
-from ctypes import POINTER, byref, c_bool, c_char_p, c_uint8, c_uint32, c_uint64, c_void_p
+import ctypes, enum
+from ctypes import POINTER, byref, c_bool, c_uint8, c_uint32, c_uint64, c_void_p
 from typing import Any, Callable, Dict, Iterator, Optional, Tuple
-from ._library import Error, declare, load, struct
+from ._library import Error, Owner, declare, declared, struct
 
 EMPTY = 66
 At = Tuple[int, int]
@@ -71,9 +71,9 @@ PROCEDURE = ctypes.CFUNCTYPE(None, POINTER(Handle), POINTER(Entry), c_void_p)
 
 
 def library() -> ctypes.CDLL:
-    """The library, each of whose calls knows its types: after the world the arguments, and last the place for a result."""
-    lib, n, kind = load(), c_uint64, c_uint32
-    for name, types in {
+    """The library, each of whose calls knows its types."""
+    n, kind = c_uint64, c_uint32
+    lib = declared("derrimas_", Handle, {
         "open": [n, n], "close": [], "alloc": [Slot, n, kind, POINTER(Made)], "set": [Slot, n], "get": [Slot, POINTER(n)], "copy": [Slot, Slot],
         "load": [Slot, n, Slot, POINTER(n)], "store": [Slot, n, Slot], "write": [Slot, n, n], "read": [n, n, POINTER(n)], "base": [n, POINTER(Object)],
         "register_object": [Slot, kind, n, n, c_uint8, POINTER(Registered)], "unregister": [Slot, POINTER(Old)],
@@ -83,11 +83,7 @@ def library() -> ctypes.CDLL:
         "next_object": [n, POINTER(Object)], "next_registration": [n, POINTER(Registration)], "next_link": [kind, n, POINTER(Linked)],
         "next_held": [n, POINTER(Entry)], "queued": [n, POINTER(Entry)], "count": [POINTER(Counts)],
         "finalize_all": [Slot, POINTER(PROCEDURE), ctypes.c_size_t, c_void_p, POINTER(n)],
-    }.items():
-        declare(lib, f"derrimas_{name}", c_uint32, [POINTER(Handle), *types])
-    for name in ("name", "strerror"):
-        declare(lib, f"derrimas_{name}", c_char_p, [c_uint32])
-    declare(lib, "derrimas_destroy", None, [POINTER(Handle)])
+    })
     declare(lib, "derrimas_sample", None, [POINTER(Samples)])
     return lib
 
@@ -102,31 +98,20 @@ def sample() -> Samples:
     return samples
 
 
-class World:
+class World(Owner):
     """A world with a heap of `blocks` blocks of 64 words, and `frames` frames of 16 slots each. It is destroyed at the end of its `with`, or when Python frees
     it."""
+    _refused, _empty = Refused, EMPTY
 
     def __init__(self, blocks: int = 64, frames: int = 1) -> None:
         self.handle = Handle()
         self.procedures: Dict[int, Callable[[World, Any], Any]] = {}
         self._call("open", blocks, frames)
 
-    def __enter__(self) -> World:
-        return self
-
-    def __exit__(self, *_: Any) -> None:
-        self.destroy()
-
-    def __del__(self) -> None:
-        self.destroy()
-
-    def _call(self, name: str, *arguments: Any, answer: Any = None) -> Any:
-        """Makes a call; `answer` is the type of its result, of which numbers and truths come as Python's."""
-        place = answer() if answer else None
-        code = getattr(LIBRARY, "derrimas_" + name)(byref(self.handle), *arguments, *([byref(place)] if answer else []))
+    def _call(self, name: str, *arguments: Any) -> None:
+        code = getattr(LIBRARY, "derrimas_" + name)(byref(self.handle), *arguments)
         if code:
             raise Refused(code)
-        return getattr(place, "value", place)
 
     def destroy(self) -> None:
         """Frees the world. No finalizer runs. Every call but this one is refused as NoWorld from then on."""
@@ -138,7 +123,7 @@ class World:
 
     def alloc(self, slot: At, size: int, words: Words = Words.SCANNED) -> Made:
         """Makes an object of `size` zero words, whose address goes into the slot."""
-        return self._call("alloc", Slot(*slot), size, words, answer=Made)
+        return self._answer(Made, "alloc", Slot(*slot), size, words)
 
     def set(self, slot: At, word: int) -> None:
         """Stores a word in a slot."""
@@ -146,7 +131,7 @@ class World:
 
     def get(self, slot: At) -> int:
         """The word of a slot."""
-        return self._call("get", Slot(*slot), answer=c_uint64)
+        return self._answer(c_uint64, "get", Slot(*slot))
 
     def copy(self, slot: At, to: At) -> None:
         """Copies the word of a slot into another slot."""
@@ -154,7 +139,7 @@ class World:
 
     def load(self, slot: At, offset: int, to: At) -> int:
         """The word at the slot's word plus the offset, which is stored in the slot `to`, too."""
-        return self._call("load", Slot(*slot), offset, Slot(*to), answer=c_uint64)
+        return self._answer(c_uint64, "load", Slot(*slot), offset, Slot(*to))
 
     def store(self, slot: At, offset: int, source: At) -> None:
         """Writes the word of the slot `source` at the slot's word plus the offset."""
@@ -166,35 +151,35 @@ class World:
 
     def read(self, word: int, offset: int = 0) -> int:
         """The word at this word plus the offset. No slot gets it, so nothing retains what it points to."""
-        return self._call("read", word, offset, answer=c_uint64)
+        return self._answer(c_uint64, "read", word, offset)
 
     def base(self, word: int) -> Optional[Object]:
         """The object to which a word points, or None."""
-        return self._or_none("base", word, answer=Object)
+        return self._or_none(Object, "base", word)
 
     def register(self, slot: At, proc: int, cd: int = 0, rank: int = 0, kind: Kind = Kind.NORMAL) -> Registered:
         """Registers a finalizer of the object that starts at the slot's word. Refused if the slot's word is 0 or outside the heap."""
-        return self._call("register_object", Slot(*slot), kind, proc, cd, rank, answer=Registered)
+        return self._answer(Registered, "register_object", Slot(*slot), kind, proc, cd, rank)
 
     def unregister(self, slot: At) -> Old:
         """Removes the finalizer of the object, and returns what it was."""
-        return self._call("unregister", Slot(*slot), answer=Old)
+        return self._answer(Old, "unregister", Slot(*slot))
 
     def link(self, slot: At, offset: int, target: At, kind: Links = Links.SHORT) -> LinkAnswer:
         """Makes the word at the place a link to the object at the target slot's word. Store the address there yourself."""
-        return LinkAnswer(self._call("link", kind, Slot(*slot), offset, Slot(*target), answer=c_uint32))
+        return LinkAnswer(self._answer(c_uint32, "link", kind, Slot(*slot), offset, Slot(*target)))
 
     def unlink(self, slot: At, offset: int, kind: Links = Links.SHORT) -> bool:
         """Removes the link at the place, and returns whether there was one."""
-        return self._call("unlink", kind, Slot(*slot), offset, answer=c_bool)
+        return self._answer(c_bool, "unlink", kind, Slot(*slot), offset)
 
     def move_link(self, slot: At, offset: int, to: At, to_offset: int, kind: Links = Links.SHORT) -> LinkAnswer:
         """Moves a link."""
-        return LinkAnswer(self._call("move_link", kind, Slot(*slot), offset, Slot(*to), to_offset, answer=c_uint32))
+        return LinkAnswer(self._answer(c_uint32, "move_link", kind, Slot(*slot), offset, Slot(*to), to_offset))
 
     def collect(self) -> Passed:
         """A whole cycle with its pass."""
-        return self._call("collect", answer=Passed)
+        return self._answer(Passed, "collect")
 
     def begin(self) -> None:
         """Opens a cycle."""
@@ -202,27 +187,27 @@ class World:
 
     def mark(self, budget: int) -> bool:
         """Scans at most `budget` objects, and returns whether none is left."""
-        return self._call("mark", budget, answer=c_bool)
+        return self._answer(c_bool, "mark", budget)
 
     def pause(self) -> Passed:
         """Ends the cycle with a pass."""
-        return self._call("pause", answer=Passed)
+        return self._answer(Passed, "pause")
 
     def take(self) -> Optional[Entry]:
         """The next entry of the queue, or None."""
-        return self._or_none("take", answer=Entry)
+        return self._or_none(Entry, "take")
 
     def waiting(self) -> bool:
         """Whether the queue has an entry that is neither taken nor finished."""
-        return self._call("waiting", answer=c_bool)
+        return self._answer(c_bool, "waiting")
 
     def outstanding(self) -> int:
         """How many entries aren't finished."""
-        return self._call("outstanding", answer=c_uint64)
+        return self._answer(c_uint64, "outstanding")
 
     def forget(self) -> int:
         """Frees the memory of finished entries, and returns how many."""
-        return self._call("forget", answer=c_uint64)
+        return self._answer(c_uint64, "forget")
 
     def hold(self, slot: At, entry: Entry) -> None:
         """Stores the address of the entry's object in a slot."""
@@ -231,23 +216,6 @@ class World:
     def finish(self, entry: Entry) -> None:
         """Finishes the entry, which isn't held any more."""
         self._call("finish", byref(entry))
-
-    def finalizer(self, proc: int, function: Callable[[World, Any], Any]) -> None:
-        """Names the procedure of a number: a function of the world and the entry."""
-        self.procedures[proc] = function
-
-    def invoke_finalizers(self) -> int:
-        """Takes entries until none is left, calls the procedure of each, and finishes it, unless the procedure did, even if it raised. Returns their
-        number."""
-        taken = 0
-        while (entry := self.take()) is not None:
-            taken += 1
-            try:
-                self.procedures.get(entry.proc, lambda world, entry: None)(self, entry)
-            finally:
-                with contextlib.suppress(Refused):  # the procedure may have finished it
-                    self.finish(entry)
-        return taken
 
     def finalize_all(self, slot: At) -> int:
         """For the end: runs the entries that wait, and then the finalizer of each registered object, by rank, then address, as no pass would. The slot retains
@@ -263,7 +231,7 @@ class World:
                 raised.append(why)
         count = max(self.procedures, default=-1) + 1
         table = (PROCEDURE * max(count, 1))(*[PROCEDURE(run)] * count)
-        ran = self._call("finalize_all", Slot(*slot), table, count, None, answer=c_uint64)
+        ran = self._answer(c_uint64, "finalize_all", Slot(*slot), table, count, None)
         if raised:
             raise raised[0]
         return ran
@@ -272,17 +240,9 @@ class World:
         """Slots of a frame from one on, for a `with`."""
         return Scope(self, frame, first)
 
-    def _or_none(self, name: str, *arguments: Any, answer: Any) -> Any:
-        try:
-            return self._call(name, *arguments, answer=answer)
-        except Refused as refused:
-            if refused.code != EMPTY:
-                raise
-            return None
-
     def _walk(self, name: str, field: str, answer: Any, *arguments: Any) -> Iterator[Any]:
         start = 0
-        while (found := self._or_none(name, *arguments, start, answer=answer)) is not None:
+        while (found := self._or_none(answer, name, *arguments, start)) is not None:
             yield found
             start = getattr(found, field) + 1
 
@@ -304,15 +264,15 @@ class World:
 
     def queued(self, seq: int) -> Optional[Entry]:
         """The entry at a place of the queue, or None if the queue isn't so long, or the entry is finished and forgotten."""
-        return self._or_none("queued", seq, answer=Entry)
+        return self._or_none(Entry, "queued", seq)
 
     def forgotten(self) -> int:
         """From which place of the queue on no entry is forgotten."""
-        return self._call("forgotten", answer=c_uint64)
+        return self._answer(c_uint64, "forgotten")
 
     def counts(self) -> Counts:
         """Counts of the world's life."""
-        return self._call("count", answer=Counts)
+        return self._answer(Counts, "count")
 
 
 class Scope:

@@ -18,10 +18,10 @@ Finalizers(marks=True) it has marks(first) too, the word of a region of objects,
 ephemerons mark_value(word), which returns whether something may have been marked. A refused call raises Refused, whose text is the library's sentence. Use
 Finalizers from one thread at a time. The library is libderrimas.so.1: that of the package, or the file that the variable DERRIMAS names."""
 from __future__ import annotations
-import contextlib, ctypes, enum
+import ctypes, enum
 from ctypes import CFUNCTYPE, POINTER, Structure, byref, c_bool, c_char_p, c_size_t, c_uint8, c_uint32, c_uint64, c_void_p
 from typing import Any, Callable, Dict, Iterator, List, NamedTuple, Optional, Union
-from ._library import Error, declare, load, struct
+from ._library import Error, Owner, declare, declared, struct
 
 EMPTY, BAD_OPTIONS = 10, 12
 BATCH = 64  # the most objects, words or regions of a question
@@ -129,10 +129,10 @@ class Question:
 
 
 def library() -> ctypes.CDLL:
-    """The library, each of whose calls knows its types: after the handle the arguments, and last the places for results."""
-    lib, n, kind = load(), c_uint64, c_uint32
+    """The library, each of whose calls knows its types."""
+    n, kind = c_uint64, c_uint32
     walk = [POINTER(n), c_void_p, c_size_t, POINTER(c_size_t)]
-    for name, types in {
+    lib = declared("derrimas_finalizers_", Handle, {
         "open": [POINTER(Options)], "reserve": [n, n, n], "shrink": [], "register": [n, kind, n, n, c_uint8, POINTER(n), POINTER(Old)],
         "unregister": [n, POINTER(Old)], "link": [kind, n, n, POINTER(kind)], "unlink": [kind, n, POINTER(c_bool)], "move_link": [kind, n, n, POINTER(kind)],
         "ephemeron": [kind, n, n, POINTER(kind)], "end_ephemeron": [n, POINTER(c_bool)], "move_ephemeron": [n, n, POINTER(kind)],
@@ -143,11 +143,7 @@ def library() -> ctypes.CDLL:
         "registration": [n, POINTER(Registration)], "target": [kind, n, POINTER(n)], "unfinished": [n, POINTER(Entry)], "count": [POINTER(Counts)],
         "why": [n, POINTER(Paths), c_void_p, POINTER(CWhy), POINTER(n), c_size_t],
         "stuck": [POINTER(Paths), c_void_p, POINTER(n), c_size_t, POINTER(c_size_t)],
-    }.items():
-        declare(lib, f"derrimas_finalizers_{name}", c_uint32, [POINTER(Handle), *types])
-    for name in ("name", "strerror"):
-        declare(lib, f"derrimas_finalizers_{name}", c_char_p, [c_uint32])
-    declare(lib, "derrimas_finalizers_destroy", None, [POINTER(Handle)])
+    })
     declare(lib, "derrimas_finalizers_has_waiting", c_bool, [POINTER(Handle)])
     declare(lib, "derrimas_finalizers_trace", None, [POINTER(Handle), POINTER(Trace)])
     declare(lib, "derrimas_finalizers_dump", None, [POINTER(Handle), LINE, c_void_p])
@@ -157,12 +153,13 @@ def library() -> ctypes.CDLL:
 LIBRARY = library()
 
 
-class Finalizers:
+class Finalizers(Owner):
     """The finalizers of a heap. They are destroyed at the end of their `with`, or when Python frees them.
 
     An allocator has the methods allocate(size), reallocate(memory, size) and release(memory), whose memory are addresses; None is no memory. What one raises
     is raised by the call in which it was called, once that has ended, and counts as no memory; a result that is no address does so too, as TypeError. With `marks` a pass asks
     about regions of objects, and with `live` about regions of words."""
+    _refused, _empty = Refused, EMPTY
 
     def __init__(self, allocator: Any = None, marks: bool = False, live: bool = False) -> None:
         self.handle = Handle()
@@ -173,15 +170,6 @@ class Finalizers:
             raise Refused(BAD_OPTIONS)
         self.options = Options(ctypes.sizeof(Options), memory, marks, live)
         self._call("open", byref(self.options))
-
-    def __enter__(self) -> Finalizers:
-        return self
-
-    def __exit__(self, *_: Any) -> None:
-        self.destroy()
-
-    def __del__(self) -> None:
-        self.destroy()
 
     def _functions(self, kind: Any, owner: Any) -> Any:
         """A struct of C with the methods of an allocator, or of hooks. What it lacks is NULL there."""
@@ -210,20 +198,6 @@ class Finalizers:
         self._raise()
         if code:
             raise Refused(code)
-
-    def _answer(self, answer: Any, name: str, *arguments: Any) -> Any:
-        """Makes a call whose last argument is a place for a result of this type; numbers and truths come as Python's."""
-        place = answer()
-        self._call(name, *arguments, byref(place))
-        return getattr(place, "value", place)
-
-    def _or_none(self, answer: Any, name: str, *arguments: Any) -> Any:
-        try:
-            return self._answer(answer, name, *arguments)
-        except Refused as refused:
-            if refused.code != EMPTY:
-                raise
-            return None
 
     def destroy(self) -> None:
         """Frees all. No finalizer runs. Every call but this one is refused as NotOpen from then on."""
@@ -369,34 +343,11 @@ class Finalizers:
         """Whether entries wait: a hint."""
         return LIBRARY.derrimas_finalizers_has_waiting(byref(self.handle))
 
-    def finalizer(self, proc: int, function: Callable[[Finalizers, Any], Any]) -> None:
-        """Names the procedure of a number: a function of these finalizers and the entry."""
-        self.procedures[proc] = function
-
-    def invoke_finalizers(self) -> int:
-        """Takes entries until none is left, calls the procedure of each, and finishes it, unless the procedure did, even if it raised. Returns their
-        number."""
-        taken = 0
-        while (entry := self.take()) is not None:
-            taken += 1
-            try:
-                self.procedures.get(entry.proc, lambda finalizers, entry: None)(self, entry)
-            finally:
-                with contextlib.suppress(Refused):  # the procedure may have finished it
-                    self.finish(entry)
-        return taken
-
     def _walk(self, item: Any, name: str, *arguments: Any) -> Iterator[Any]:
         """What a walk yields, in parts. Nothing may change meanwhile."""
-        start, some, count = c_uint64(0), (item * PART)(), c_size_t()
-        while True:
-            try:
-                self._call(name, *arguments, byref(start), some, PART, byref(count))
-            except Refused as refused:
-                if refused.code != EMPTY:
-                    raise
-                return
-            yield from [item.from_buffer_copy(it) if issubclass(item, Structure) else it for it in some[:count.value]]
+        start, some = c_uint64(0), (item * PART)()
+        while (count := self._or_none(c_size_t, name, *arguments, byref(start), some, PART)) is not None:
+            yield from [item.from_buffer_copy(it) if issubclass(item, Structure) else it for it in some[:count]]
 
     def roots(self, sort: Root) -> Iterator[int]:
         """The roots of this sort. As in each walk, only calls that change nothing may be made before its end."""
