@@ -16,7 +16,7 @@ use Rattle.own_heap.specs.declared.record.Field.{Field}
 use Rattle.own_heap.specs.declared.record.Field.TheVariants.{Nothing}
 use Rattle.own_heap.specs.declared.record.Record.{Record}
 use Rattle.own_heap.specs.declared.record.RecordId.{RecordId}
-use Rattle.own_heap.specs.Records.{address_of, field_at, place_of, object_of, objects_of, AreFieldsKept, AreFieldsLeft, IsLedByWord, IsLedByRoot}
+use Rattle.own_heap.specs.Records.{address_of, cleared, field_at, place_of, object_of, objects_of, AreFieldsKept, AreFieldsLeft, IsLedByWord, IsLedByRoot}
 use Rattle.own_heap.specs.Marking.{is_in}
 use Rattle.own_heap.specs.Collected.{IsLedByAny, Remain}
 use Rattle.own_heap.proofs.Slots.{object_in, get-objects, place_of-address, points_is, nowhere, stands}
@@ -85,7 +85,7 @@ fields_left old mid new marked kept left place k = by (marked (address_of place)
     field : Option Record → Option Field
     field = option_map (λ (r : Record). get_or r.fields k Nothing)
 
-    by : (b : Bool) → get_or new place None ≡ cond b (get_or mid place None) None → (field_at new place k ≡ None) ⊎ ((field_at new place k ≡ field_at old place k) ⊎ (field_at new place k ≡ Some Nothing))
+    by : (b : Bool) → get_or new place None ≡ cond b (get_or mid place None) None → (field_at new place k ≡ None) ⊎ ((field_at new place k ≡ field_at old place k) ⊎ (field_at new place k ≡ option_map cleared (field_at old place k)))
     by true is = inr (⊎_elim (λ same. inl (ap field is ∙ same)) (λ none. inr (ap field is ∙ none)) (kept place k))
     by false is = inl (ap field is)
 
@@ -102,7 +102,7 @@ fields_stand old new kept a here = at (get (objects_of old) a) refl here
     at (Some o) is h =
         let s = stands old a o is in
         let first = ap (option_map (λ (r : Record). get_or r.fields 0 Nothing)) s.slot in
-        let there = ⊎_elim (λ same. has (get_or new s.place None) (get_or s.read.fields 0 Nothing) (same ∙ first)) (λ none. has (get_or new s.place None) Nothing none) (kept s.place 0) in
+        let there = ⊎_elim (λ same. has (get_or new s.place None) (get_or s.read.fields 0 Nothing) (same ∙ first)) (λ was. has (get_or new s.place None) (cleared (get_or s.read.fields 0 Nothing)) (was ∙ ap (option_map cleared) first)) (kept s.place 0) in
         ap is_some (get-objects new a ∙ ap (object_in new) s.at) ∙ there
 
 -- of the objects those that are marked remain

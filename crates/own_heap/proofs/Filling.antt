@@ -4,7 +4,7 @@ use Rattle.std.proofs.lemmas.Option.{none-some}
 use Rattle.own_heap.specs.declared.record.Field.{Field}
 use Rattle.own_heap.specs.declared.record.Field.TheVariants.{Nothing}
 use Rattle.own_heap.specs.declared.record.Record.{Record}
-use Rattle.own_heap.specs.Records.{AreFieldsKept, IsFullTo}
+use Rattle.own_heap.specs.Records.{cleared, AreFieldsKept, IsFullTo}
 
 abbrev first_field : Record → Field
 first_field r = get_or r.fields 0 Nothing
@@ -13,7 +13,11 @@ no_record : (s : Option Record) → option_map first_field s ≡ None → s ≡ 
 no_record None none = refl
 no_record (Some r) none = absurd (none-some (first_field r) (sym none))
 
+no_field : (o : Option Field) → option_map cleared o ≡ None → o ≡ None
+no_field None none = refl
+no_field (Some f) none = absurd (none-some (cleared f) (sym none))
+
 pub full_kept : (old new : List (Option Record)) (to : ℕ) → AreFieldsKept old new → IsFullTo old to → IsFullTo new to
 full_kept old new to kept full k less is =
     let none : option_map first_field (get_or new k None) ≡ None = ap (option_map first_field) is in
-    ⊎_elim (λ same. full k less (no_record (get_or old k None) (sym same ∙ none))) (λ cleared. none-some Nothing (sym none ∙ cleared)) (kept k 0)
+    ⊎_elim (λ same. full k less (no_record (get_or old k None) (sym same ∙ none))) (λ was. full k less (no_record (get_or old k None) (no_field _ (sym was ∙ none)))) (kept k 0)

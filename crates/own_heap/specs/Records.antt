@@ -74,9 +74,23 @@ pub record IsMade (old new : List (Option Record)) (id : RecordId) (made : Recor
 abbrev pub with_field : ℕ → Field → Record → Record
 with_field k value r = record r { fields = slice_set r.fields k value }
 
--- the records, one of them with another value in one field
+-- what is left of a field once it is cleared: a number stays, which points to nothing
+abbrev pub cleared : Field → Field
+cleared Nothing = Nothing
+cleared (Number n) = Number n
+cleared (Reference id) = Nothing
+cleared (Hidden id) = Nothing
+
+-- a record with one field cleared
+abbrev pub with_cleared : ℕ → Record → Record
+with_cleared k r = with_field k (cleared (slice_index_or r.fields k Nothing)) r
+
+-- the records, one of them with another value in one field, or with one field cleared
 abbrev pub with_field_at : ℕ → ℕ → Field → List (Option Record) → List (Option Record)
 with_field_at place k value slots = slice_set slots place (option_map (with_field k value) (slot slots place))
+
+abbrev pub with_cleared_at : ℕ → ℕ → List (Option Record) → List (Option Record)
+with_cleared_at place k slots = slice_set slots place (option_map (with_cleared k) (slot slots place))
 
 -- the field of the record at an index, if there is one
 abbrev pub field_at : List (Option Record) → ℕ → ℕ → Option Field
@@ -84,11 +98,11 @@ field_at slots place k = option_map (λ (r : Record). slice_index_or r.fields k 
 
 -- each field is unchanged or was cleared
 abbrev pub AreFieldsKept : List (Option Record) → List (Option Record) → Type 0
-AreFieldsKept old new = (place k : ℕ) → (field_at new place k ≡ field_at old place k) ⊎ (field_at new place k ≡ Some Nothing)
+AreFieldsKept old new = (place k : ℕ) → (field_at new place k ≡ field_at old place k) ⊎ (field_at new place k ≡ option_map cleared (field_at old place k))
 
 -- the same of the records that remain; the fields of the others are gone
 abbrev pub AreFieldsLeft : List (Option Record) → List (Option Record) → Type 0
-AreFieldsLeft old new = (place k : ℕ) → (field_at new place k ≡ None) ⊎ ((field_at new place k ≡ field_at old place k) ⊎ (field_at new place k ≡ Some Nothing))
+AreFieldsLeft old new = (place k : ℕ) → (field_at new place k ≡ None) ⊎ ((field_at new place k ≡ field_at old place k) ⊎ (field_at new place k ≡ option_map cleared (field_at old place k)))
 
 -- the value of an ephemeron: the record that the field with this address hides
 abbrev pub value_of : Map Object → ℕ → Option ℕ

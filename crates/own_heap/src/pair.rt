@@ -12,7 +12,7 @@ use crate::runtime::Runtime;
 use fz_finalizers::{LinkKind, Refused};
 use fz_model::Addr;
 
-/// A record whose first field is weak: it has the address of another record as a number, which retains nothing, and is cleared once that record is lost. Until
+/// A record whose first field is weak: it hides a reference to another record, which retains nothing, and is cleared once that record is lost. Until
 /// then it has the record, also while a finalizer or a guardian has that. The other fields are like those of any record.
 #[derive(Clone, Copy, Debug, PartialEq, Eq)]
 pub struct WeakPair {
@@ -30,12 +30,12 @@ impl WeakPair {
         ensures refused { OnErr result ((runtime.new.finalizers.state ≡ runtime.old.finalizers.state) × (runtime.new.heap ≡ runtime.old.heap)) }
         ensures pair { IfOk result (λ pair. pair.id ≡ id) }
         ensures follows { OnOk result (Follows runtime.old.finalizers.state (Link LinkKind.Long (address_of id.place) (address_of first.place)) runtime.new.finalizers.state) }
-        ensures set { OnOk result (runtime.new.heap.records.slots.items ≡ with_field_at id.place 0 (Field.Number (address_of first.place)) runtime.old.heap.records.slots.items) }
+        ensures set { OnOk result (runtime.new.heap.records.slots.items ≡ with_field_at id.place 0 (Field.Hidden first) runtime.old.heap.records.slots.items) }
         ensures rest { OnOk result ((runtime.new.heap.roots ≡ runtime.old.heap.roots) × (runtime.new.heap.births ≡ runtime.old.heap.births)) }
         ensures room { Spends (UsesLink LinkKind.Long) result runtime.old.finalizers.rooms runtime.new.finalizers.rooms }
     {
         runtime.link(LinkKind::Long, id.address(), first)?;
-        runtime.set(id, 0, Field::Number(first.address()));
+        runtime.set(id, 0, Field::Hidden(first));
         Ok(WeakPair { id })
     }
 

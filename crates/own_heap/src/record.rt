@@ -2,7 +2,7 @@
 
 ghost use Rattle.std.specs.Prelude.{◌≡◌, ◌+◌, ◌<◌, Option};
 ghost use Rattle.own_heap.specs.Outside.{place_of_link};
-ghost use Rattle.own_heap.specs.Records.{address_of, place_of, word_of};
+ghost use Rattle.own_heap.specs.Records.{address_of, cleared, place_of, word_of};
 
 use fz_model::{Addr, Word};
 
@@ -26,10 +26,12 @@ pub struct RecordId {
 #[derive(Clone, Copy, Debug, PartialEq, Eq)]
 pub enum Field {
     Nothing,
+    /// A number, which points to nothing, and which no collection changes.
     Number(u64),
     /// A reference to a record, which retains it.
     Reference(RecordId),
-    /// A reference that the marker doesn't follow: the value of an ephemeron. If the field isn't an ephemeron, nothing retains the record.
+    /// A reference that the marker doesn't follow: the target of a link, or the value of an ephemeron. If the field isn't an ephemeron, nothing retains the
+    /// record.
     Hidden(RecordId),
 }
 
@@ -67,6 +69,16 @@ impl Field {
             Field::Reference(id) => id.address(),
             Field::Hidden(id) => id.address() + FIELDS as u64,
             Field::Nothing | Field::Number(_) => 0,
+        }
+    }
+
+    /// What is left of the field once it is cleared: nothing, or its number if it is one.
+    pub(crate) fn cleared(self) -> Field
+        ensures { result ≡ cleared self }
+    {
+        match self {
+            Field::Number(number) => Field::Number(number),
+            Field::Nothing | Field::Reference(_) | Field::Hidden(_) => Field::Nothing,
         }
     }
 }

@@ -3,7 +3,7 @@
 ghost use Rattle.std.specs.Prelude.{◌≡◌, ◌≢◌, ◌<◌, ◌≤◌, ℕ, None, Some, option_map, length, IfSome, MatchOption};
 ghost use Rattle.std.specs.FinMap.{get};
 ghost use Rattle.fz_model.specs.Memory.{points, written};
-ghost use Rattle.own_heap.specs.Records.{object_of, objects_of, slot, value_of, with_field_at, AreFieldsKept, IsFull};
+ghost use Rattle.own_heap.specs.Records.{object_of, objects_of, slot, value_of, with_cleared_at, with_field_at, AreFieldsKept, IsFull};
 
 use crate::record::{FIELDS, Field, Record, place_of};
 use fz_model::{Addr, Word};
@@ -70,7 +70,20 @@ impl Records {
         }
     }
 
-    /// Clears the field with this address.
+    /// Clears a field of the record at an index, if there is one.
+    fn empty(&mut self, place: usize, field: usize)
+        requires { field < FIELDS }
+        ensures { self.new.slots.items ≡ with_cleared_at place field self.old.slots.items }
+    {
+        let Some(slot) = self.slots.get_mut(place) else {
+            return;
+        };
+        if let Some(read) = slot {
+            read.fields[field] = read.fields[field].cleared();
+        }
+    }
+
+    /// Clears the field with this address, unless it is a number.
     pub(crate) fn clear(&mut self, word: Addr)
         ensures objects { objects_of self.new.slots.items ≡ written word 0 (objects_of self.old.slots.items) }
         ensures fields { AreFieldsKept self.old.slots.items self.new.slots.items }
@@ -78,7 +91,7 @@ impl Records {
     {
         let start = word - word % FIELDS as u64;
         if let Some(place) = place_of(start) {
-            self.set(place, (word % FIELDS as u64) as usize, Field::Nothing);
+            self.empty(place, (word % FIELDS as u64) as usize);
         }
     }
 }

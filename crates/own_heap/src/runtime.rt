@@ -314,7 +314,7 @@ impl Runtime {
         ensures pass { result.pass ≡ next_pass self.old.finalizers.passes }
         ensures picked { length self.new.finalizers.queue ≡ length self.old.finalizers.queue + result.picked }
         ensures cursor { self.new.heap.cursor ≡ 0 }
-        // Records that remain are unchanged but for fields that were cleared, also numbers in their fields.
+        // Records that remain are unchanged but for references that were cleared: `collected` says which. Numbers stay.
         ensures fields { AreFieldsLeft self.old.heap.records.slots.items self.new.heap.records.slots.items }
         ensures held { HeldStand (objects_of self.new.heap.records.slots.items) self.new.finalizers.state }
         ensures rest { (self.new.heap.roots ≡ self.old.heap.roots) × (self.new.heap.births ≡ self.old.heap.births) }

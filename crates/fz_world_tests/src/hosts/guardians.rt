@@ -2,7 +2,7 @@
 
 use crate::equal::must_be;
 use fz_finalizers::{Entry, Finalizer, Kind, Old};
-use own_heap::Field::{Nothing, Number, Reference};
+use own_heap::Field::{Hidden, Nothing, Reference};
 use own_heap::{FIELDS, Field, Guardian, RecordId, Runtime, WeakPair};
 use std::process::Abort;
 use std::test::*;
@@ -122,19 +122,14 @@ fn a_guardian_saves_a_record(rt: HostRuntime) {
     runtime.add_root(id).expect(&rt, "memory");
     must_be(&rt, runtime.collect().picked, 0, "it is in use");
     must_be(&rt, pair.first(&runtime), Some(id), "the pair has it still");
-    let number = Some(Number(id.address()));
-    must_be(&rt, field(&runtime, pair.id()), number, "as a number");
+    let hidden = Some(Hidden(id));
+    must_be(&rt, field(&runtime, pair.id()), hidden, "hidden");
     let _ = runtime.pop_root();
     let _ = runtime.collect();
     must_be(&rt, runtime.heap().stands(id), false, "it is gone");
     must_be(&rt, pair.first(&runtime), None, "the pair has nothing");
     let cleared = Some(Nothing);
-    must_be(
-        &rt,
-        field(&runtime, pair.id()),
-        cleared,
-        "not even a number",
-    );
+    must_be(&rt, field(&runtime, pair.id()), cleared, "not even hidden");
 }
 
 /// A pair that is set to another record no longer has the first one.

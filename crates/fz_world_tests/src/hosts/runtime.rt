@@ -2,7 +2,7 @@
 
 use crate::equal::must_be;
 use fz_finalizers::{Finalizer, Kind, LinkKind, MoveAnswer, Old, Refused};
-use own_heap::Field::{Nothing, Number, Reference};
+use own_heap::Field::{Hidden, Nothing, Number, Reference};
 use own_heap::{FIELDS, Field, OUTSIDE, RecordId, Runtime};
 use std::process::Abort;
 use std::test::*;
@@ -47,11 +47,10 @@ fn the_record_of_a_taken_entry_stands_until_it_is_finished(rt: HostRuntime) {
         &mut runtime,
         [Reference(leaf), Nothing, Nothing, Nothing],
     );
-    let hidden = Number(stem.address());
     let root = made(
         &rt,
         &mut runtime,
-        [Reference(stem), hidden, Nothing, Nothing],
+        [Reference(stem), Hidden(stem), Number(9), Nothing],
     );
     runtime.add_root(root).expect(&rt, "a root");
     register(&rt, &mut runtime, stem, normal(1));
@@ -61,7 +60,13 @@ fn the_record_of_a_taken_entry_stands_until_it_is_finished(rt: HostRuntime) {
     runtime.set(root, 0, Nothing);
     must_be(&rt, runtime.collect().picked, 1, "the stem is picked");
     let left = runtime.heap().get(root).copied().map(|read| read.fields);
-    must_be(&rt, left, Some([Nothing; FIELDS]), "the link is cleared");
+    let number = [Nothing, Nothing, Number(9), Nothing];
+    must_be(
+        &rt,
+        left,
+        Some(number),
+        "the link is cleared, and the number stays",
+    );
     let entry = runtime.take().expect(&rt, "an entry");
     must_be(
         &rt,

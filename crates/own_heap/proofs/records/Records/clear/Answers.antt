@@ -5,7 +5,7 @@ use Rattle.own_heap.proofs.Clearing.{clears_nothing, clears, fields_cleared}
 use Rattle.own_heap.proofs.records.Records.clear.Goals as goal
 
 pub returns-in-Some-clause-objects : goal.returns-in-Some-clause-objects
-returns-in-Some-clause-objects c = ap objects_of c.set.ensures ∙ clears c.args.self.now.slots.items c.args.word c.in-Some.place (sym c.in-Some.ensures)
+returns-in-Some-clause-objects c = ap objects_of c.empty.ensures ∙ clears c.args.self.now.slots.items c.args.word c.in-Some.place (sym c.in-Some.ensures)
 
 pub returns-in_default-clause-objects : goal.returns-in_default-clause-objects
 returns-in_default-clause-objects c =
@@ -15,4 +15,4 @@ returns-in_default-clause-objects c =
 pub returns-in-Some-clause-fields : goal.returns-in-Some-clause-fields
 returns-in-Some-clause-fields c =
     let slots = c.args.self.now.slots.items in
-    subst (AreFieldsKept slots) (sym c.set.ensures) (fields_cleared slots c.in-Some.place (c.args.word % 4))
+    subst (AreFieldsKept slots) (sym c.empty.ensures) (fields_cleared slots c.in-Some.place (c.args.word % 4))
