@@ -33,20 +33,25 @@ static double NOINLINE make(const Objects *objects, bool live) {
     t = now() - t;
     for (size_t i = 0; i < objects->count; i++) if (!OBJECT(i)) fail("no memory");
     for (size_t i = 0; objects->links && i < objects->count; i++)
-        for (size_t k = 0; k < objects->size; k++) {
-            size_t link = objects->links[i * objects->size + k];
+        for (size_t k = 0; k < objects->linked; k++) {
+            size_t link = objects->links[i * objects->linked + k];
             if (link) OBJECT(i)[k] = OBJECT(link - 1);
         }
     root = live ? OBJECT(objects->first) : NULL;
     return t;
 }
 
-/* one word more than links */
-static void NOINLINE make_words(size_t n) {
-    words = GC_malloc_atomic((n + 1) * sizeof *words);
+/* how many objects are replaced before each collection */
+static size_t replaced(const Row *row, size_t n) { return row->call == COLLECT_CHANGED ? n / PART : 0; }
+
+/* how many words there are: one for the link of each object, and one more, or one for that of each new object */
+static size_t words_of(const Row *row, size_t n) { return n + (row->call == COLLECT_CHANGED ? COLLECTIONS * replaced(row, n) : 1); }
+
+static void NOINLINE make_words(const Row *row, size_t n) {
+    size_t count = words_of(row, n);
+    words = GC_malloc_atomic(count * sizeof *words);
     if (!words) fail("no memory");
-    for (size_t i = 0; i < n; i++) words[i] = (void *)hidden[i];
-    words[n] = NULL;
+    for (size_t i = 0; i < count; i++) words[i] = i < n ? (void *)hidden[i] : NULL;
 }
 
 static double NOINLINE enter(size_t n, Kind kind) {
@@ -59,6 +64,21 @@ static double NOINLINE enter(size_t n, Kind kind) {
     t = now() - t;
     if (linked != (kind == LINKED || kind == BOTH ? n : 0)) fail("another number of links");
     return t;
+}
+
+/* the time of the longest call of those that enter objects */
+static double NOINLINE longest(size_t n, bool links) {
+    size_t linked = 0;
+    double most = 0;
+    for (size_t i = 0; i < n; i++) {
+        double t = now();
+        if (links) linked += GC_general_register_disappearing_link(&words[i], OBJECT(i)) == GC_SUCCESS;
+        else GC_register_finalizer(OBJECT(i), finalizer, 0, 0, 0);
+        t = now() - t;
+        if (t > most) most = t;
+    }
+    if (linked != (links ? n : 0)) fail("another number of links");
+    return most;
 }
 
 /* the bytes of the process that are in memory */
@@ -108,11 +128,13 @@ static double collect(void) {
     return t;
 }
 
-/* A few words on the stack may keep a few objects, or the chain's first: here, and in the next function. */
+/* A few words on the stack may keep a few objects, or the chain's first. */
+static void check_number(size_t number, size_t expected, const char *what) { if (number > expected || number + 16 < expected) fail(what); }
+
 static void check_cleared(size_t n, size_t expected) {
     size_t cleared = 0;
     for (size_t i = 0; i < n; i++) cleared += !words[i];
-    if (cleared > expected || cleared + 16 < expected) fail("another number of cleared links");
+    check_number(cleared, expected, "another number of cleared links");
 }
 
 /* Calls all procedures that are queued. */
@@ -121,14 +143,45 @@ static double invoke(size_t expected) {
     double t = now();
     size_t invoked = GC_invoke_finalizers();
     t = now() - t;
-    if (invoked > expected || invoked + 16 < expected) fail("another number of procedures");
+    check_number(invoked, expected, "another number of procedures");
+    return t;
+}
+
+/* Puts new objects in the place of some of a chain, at random, which die. They are entered like all, and their links stand at words from this one on. */
+static void NOINLINE replace(const Row *row, size_t n, size_t some, size_t word) {
+    for (size_t k = 0; k < some; k++) {
+        size_t i = 1 + below(n - 1);
+        void **object = GC_malloc(sizeof *object);
+        if (!object) fail("no memory");
+        object[0] = OBJECT(i)[0];
+        OBJECT(i)[0] = NULL;
+        OBJECT(i - 1)[0] = object;
+        hidden[i] = GC_HIDE_POINTER(object);
+        if (is_registered(row)) GC_register_finalizer(object, finalizer, 0, 0, 0);
+        if (!is_linked(row)) continue;
+        words[word + k] = (void *)hidden[i];
+        if (GC_general_register_disappearing_link(&words[word + k], object) != GC_SUCCESS) fail("a link was refused");
+    }
+}
+
+/* the time of COLLECTIONS of live objects, some of which are replaced before each */
+static double collect_live(const Row *row, size_t n) {
+    size_t some = replaced(row, n), invoked = 0;
+    double t = 0;
+    for (int i = 0; i < COLLECTIONS; i++) {
+        replace(row, n, some, n + i * some);
+        t += collect();
+        invoked += GC_invoke_finalizers();
+    }
+    check_number(invoked, is_registered(row) ? COLLECTIONS * some : 0, "another number of procedures");
+    if (some && is_linked(row)) check_cleared(words_of(row, n), COLLECTIONS * some);
     return t;
 }
 
 /* Objects that are made, entered, queued and finished before those that count. */
 static void NOINLINE one_round(const Row *row, const Objects *objects) {
     make(objects, false);
-    if (is_linked(row)) make_words(objects->count);
+    if (is_linked(row)) make_words(row, objects->count);
     enter(objects->count, row->kind);
     collect();
     invoke(objects->count);
@@ -144,7 +197,8 @@ static double run(const Row *row, const Objects *objects, bool with_call) {
     for (int round = 0; row->call == COLLECT_AGAIN && round < ROUNDS; round++) one_round(row, objects);
     double t = make(objects, row->live);
     if (row->call == MAKE) return t;
-    if (is_linked(row)) make_words(objects->count);
+    if (is_linked(row)) make_words(row, objects->count);
+    if (row->call == LONGEST) return longest(objects->count, is_linked(row));
     double before = row->call == RESIDENT ? resident() : 0;
     t = enter(objects->count, row->kind);
     if (row->call == ENTER) return t;
@@ -152,14 +206,11 @@ static double run(const Row *row, const Objects *objects, bool with_call) {
     if (row->call == MOVE) return move_links(objects->count);
     if (row->call == UNLINK) return unlink_all(objects->count);
     if (row->call == UNREGISTER) return unregister_all(objects->count);
-    if (row->call != COLLECT && row->call != COLLECT_AGAIN && row->call != FINISH) fail("it has no such call");
+    if (row->call == STORE || row->call == STORE_IN_CYCLE) fail("it has no such call");
     t = collect();
     if (is_linked(row)) check_cleared(objects->count, row->live ? 0 : objects->count);
-    if (row->live) {
-        t = 0;
-        for (int i = 0; i < COLLECTIONS; i++) t += collect();
-        if (GC_get_heap_size() - GC_get_free_bytes() < objects->count * objects->size * sizeof(void *)) fail("live objects are gone");
-    }
+    if (row->live && row->call != COLLECT_FIRST) t = collect_live(row, objects->count);
+    if (row->live && GC_get_heap_size() - GC_get_free_bytes() < objects->count * objects->size * sizeof(void *)) fail("live objects are gone");
     double of_calls = invoke(queued(row, objects->count));
     return row->call == FINISH ? of_calls : t;
 }
