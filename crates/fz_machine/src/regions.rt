@@ -32,7 +32,7 @@ pub(crate) fn region_of(n: Addr) -> Addr
     n - STEP * place_in(n)
 }
 
-/// Whether a region begins at an odd number of words: 1 if it does, and else 0.
+/// 1 if a region begins at an odd number of words, otherwise 0.
 #[inline(always)]
 fn parity_of(region: Addr) -> usize
     ensures { result < 2 }
@@ -66,8 +66,8 @@ pub struct Noted {
 /// The regions that a sweep asks about, each with a bit for each place where an object, or a word, may lie.
 pub(crate) struct Regions {
     noted: IndexMap<Addr, Noted, AddressHasher>,
-    /// The indices at which regions were found last: of those that begin at an even number of words, and of the others. What is noted next often lies in the
-    /// same one, and words that follow each other lie in two by turns.
+    /// The indices at which regions were found last: one for regions that begin at an even number of words, and one for the others. The next note is often in
+    /// the same region. Successive words alternate between two regions.
     last: [usize; 2],
     /// Whether all is noted that the sweep is about. If not, it asks about no regions.
     complete: bool,
