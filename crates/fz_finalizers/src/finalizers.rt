@@ -9,7 +9,7 @@ use crate::refused::Refused;
 use fz_links::Links;
 use fz_model::Addr;
 use fz_pass::Ephemerons;
-use fz_table::Table;
+use fz_table::{AddressHasher, Table};
 use std::alloc::Global;
 use std::marker::Model;
 
@@ -78,12 +78,27 @@ impl Finalizers {
         ensures opened { IfOk result (λ f. f.state ≡ opening) }
         ensures memory { IfOk result (λ f. f.memory ≡ record { whole = false; forgotten = 0; remembered = 0 }) }
     {
+        let hasher = AddressHasher::new();
+        Finalizers::with_hashers(alloc, hasher, hasher)
+    }
+
+    /// Finalizers without registrations, whose tables hash the addresses of registered objects by `objects`, and those of words by `words`. A hasher for
+    /// multiples of 8 makes calls on large tables faster if most addresses are such. Fails with `NoMemory` if an allocation fails.
+    pub fn with_hashers(
+        alloc: Global,
+        objects: AddressHasher,
+        words: AddressHasher,
+    ) -> Result<Finalizers, Refused>
+        ensures refused { IfErr result (λ r. r ≡ Refused.NoMemory) }
+        ensures opened { IfOk result (λ f. f.state ≡ opening) }
+        ensures memory { IfOk result (λ f. f.memory ≡ record { whole = false; forgotten = 0; remembered = 0 }) }
+    {
         let ready = Ready::new(alloc)?;
         Ok(Finalizers {
-            table: Table::new(alloc),
-            short: Links::new(alloc),
-            long: Links::new(alloc),
-            ephemerons: Ephemerons::new(alloc),
+            table: Table::with_hasher(alloc, objects),
+            short: Links::with_hasher(alloc, words),
+            long: Links::with_hasher(alloc, words),
+            ephemerons: Ephemerons::with_hasher(alloc, words),
             cleanups: Cleanups::new(alloc),
             moves: Vec::new(alloc),
             ready,

@@ -61,8 +61,15 @@ impl Links {
     pub fn new(alloc: Global) -> Links
         ensures { result.links ≡ empty }
     {
+        Links::with_hasher(alloc, AddressHasher::new())
+    }
+
+    /// No links. Their words are hashed by this hasher.
+    pub fn with_hasher(alloc: Global, hasher: AddressHasher) -> Links
+        ensures { result.links ≡ empty }
+    {
         Links {
-            entries: IndexMap::with_hasher(alloc, AddressHasher::new()),
+            entries: IndexMap::with_hasher(alloc, hasher),
             room: 0,
         }
     }

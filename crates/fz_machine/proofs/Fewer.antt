@@ -1,8 +1,8 @@
 -- Each answer that is heard leaves fewer to come.
-use Rattle.std.proofs.Common.{◌≡◌, ◌≤◌, ◌<◌, ◌+◌, ◌-◌, ◌*◌, ◌&&◌, ◌++◌, ◌∷◌, ◌∙◌, [], ℕ, zero, suc, Bool, true, false, not, cond, refl, filter, get_or, nat_le, List, length, map, Option, Some, None, inl, inr, sym, ap, subst, is_some, length-append, add-mul, mul-add, arith}
+use Rattle.std.proofs.Common.{◌≡◌, ◌≤◌, ◌<◌, ◌+◌, ◌-◌, ◌*◌, ◌&&◌, ◌++◌, ◌∷◌, ◌∙◌, [], ℕ, zero, suc, Bool, true, false, not, cond, refl, filter, get_or, nat_le, ◌⊎◌, ⊎_elim, List, length, map, Option, Some, None, inl, inr, sym, ap, subst, is_some, length-append, add-mul, mul-add, arith}
 use Rattle.std.proofs.lemmas.Bool.{and_parts, true≢false}
 use Rattle.std.proofs.lemmas.List.{length-map}
-use Rattle.std.proofs.lemmas.Option.{none-some}
+use Rattle.std.proofs.lemmas.Option.{none-some, same_Some}
 use Rattle.std.proofs.lemmas.List.Sorted.{length_permutation}
 use Rattle.std.specs.FinMap.{len, remove}
 use Rattle.fz_model.specs.declared.answers.Registration.{Registration}
@@ -16,7 +16,6 @@ use Rattle.fz_model.specs.declared.kinds.LinkKind.TheVariants.{Short, Long}
 use Rattle.fz_pass.specs.Holds.{Ephemerons}
 use Rattle.fz_finalizers.specs.declared.cleanups.Attached.{Attached}
 use Rattle.fz_finalizers.specs.Cleanups.{is_when}
-use Rattle.fz_finalizers.specs.Follows.{Event, Follows}
 use Rattle.fz_finalizers.specs.States.{State}
 use Rattle.fz_machine.specs.declared.item.Item.{Item}
 use Rattle.fz_machine.specs.declared.pass.Next.{Next}
@@ -29,15 +28,15 @@ use Rattle.fz_machine.specs.declared.phase.Sweep.{Sweep}
 use Rattle.fz_machine.specs.declared.phase.Sweep.TheVariants as sweeps
 use Rattle.fz_machine.specs.Heard.{Begun, Goes, Hears, Learns, Meanwhile, PassesEnd, Told}
 use Rattle.fz_machine.specs.Items.{AreCleanups, AreEntriesOf, AreEphemerons, AreLinks, AreObjects, is_still, of_cleanup, of_link, of_stored, target_of, word_of}
-use Rattle.fz_machine.specs.Machines.{IsWork, Machine, Tells, TellsIn, Words, going_of, heard_by}
+use Rattle.fz_machine.specs.Machines.{IsBegunFrom, IsTold, IsWorked, Machine, Tells, TellsIn, Words, going_of, heard_by}
 use Rattle.fz_machine.specs.Off.{PutOff, TellsOff, all_off, looked_at, looking, looks_again, none_off, put_off, stuck_with}
 use Rattle.fz_machine.specs.Phases.{Lists, after, aside_in, asks, behind, given, keeps, next_phase, off_in, swept}
 use Rattle.fz_machine.specs.Regions.{is_marked, is_unmarked}
-use Rattle.fz_machine.specs.Steps.{Asks, Ends, Going, GoesOn, Sweeps, Turns, skip, skipped, steps}
+use Rattle.fz_machine.specs.Steps.{Asks, Begins, Ends, Going, GoesOn, Sweeps, Turns, skip, skipped, step, stepped, steps}
 use Rattle.fz_machine.proofs.Phasing.{kept_on}
 use Rattle.fz_machine.proofs.Due.{HasOf, both_kinds, fewer_of}
 use Rattle.fz_machine.proofs.Delayed.{all_with, tells_moves}
-use Rattle.fz_machine.proofs.Throughout.{heard_answers, heard_words}
+use Rattle.fz_machine.proofs.Throughout.{goes_keep, heard_answers, heard_words, skip_keeps, steps_keep}
 use Rattle.fz_machine.proofs.Within.{IsWithin, still}
 use Rattle.fz_machine.proofs.Working.{work_apart}
 
@@ -95,7 +94,7 @@ eleven : (n : ℕ) → most 11 n ≡ 11 * n + most 0 n
 eleven zero = refl
 eleven (suc n) = let before = eleven n in omega (arith, before)
 
-most_is : (n : ℕ) → most 11 n ≡ 11 * n + n * (2 * n + 1)
+pub most_is : (n : ℕ) → most 11 n ≡ 11 * n + n * (2 * n + 1)
 most_is n = let all = eleven n in let product = square n in omega (arith, all, product)
 
 -- what may follow once a value was asked about: those that wait are told, and then all are looked at
@@ -257,12 +256,117 @@ stops phase g last k Sweeps moment is = absurd (true≢false (sym (ap is_values 
 stops phase g last k (Turns {next = next} {h = m} none turns begins rest) moment is = stops next m last k rest moment is
 stops phase g last k (Ends none turns) moment is = absurd (none-some (Values moment) is)
 
-module _ (r s g es el sc l : ℕ) where
+-- how often the phase behind a sweep, and those that process what it keeps, process so many items
+abbrev pub cost : Sweep → ℕ → ℕ
+cost sweeps.ShortCleanups n = n
+cost sweeps.ShortTargets n = 2 * n
+cost sweeps.Objects n = 6 * n
+cost sweeps.LongTargets n = 2 * n
+cost sweeps.ShortHolders n = n
+cost sweeps.LongHolders n = n
+cost sweeps.LongCleanups n = n
+
+-- how often those behind it process what it keeps
+abbrev pub cost_kept : Sweep → ℕ → ℕ
+cost_kept sweeps.ShortTargets n = n
+cost_kept sweeps.Objects n = 5 * n
+cost_kept sweeps.LongTargets n = n
+cost_kept sweep n = 0
+
+-- the phase behind a sweep puts nothing off
+off_stays : (sweep : Sweep) (item : Item) (off : PutOff) → put_off (swept sweep) item false off ≡ off
+off_stays sweeps.ShortCleanups item off = refl
+off_stays sweeps.ShortTargets item off = refl
+off_stays sweeps.Objects item off = refl
+off_stays sweeps.LongTargets item off = refl
+off_stays sweeps.ShortHolders item off = refl
+off_stays sweeps.LongHolders item off = refl
+off_stays sweeps.LongCleanups item off = refl
+
+stepped_off : (sweep : Sweep) (g : Going) (xs : List Item) → (stepped (swept sweep) false g xs).off ≡ g.off
+stepped_off sweep g [] = refl
+stepped_off sweep g (item ∷ left) = off_stays sweep item g.off
+
+skipped_off : (sweep : Sweep) (xs : List Item) (g : Going) → (skipped (swept sweep) xs g).off ≡ g.off
+skipped_off sweep [] g = refl
+skipped_off sweep (item ∷ left) g = by (is_some (asks (swept sweep) item)) (skipped_off sweep left (step (swept sweep) false g) ∙ stepped_off sweep g g.left)
+  where
+    by : (b : Bool) → (skipped (swept sweep) left (step (swept sweep) false g)).off ≡ g.off → (cond b g (skipped (swept sweep) left (step (swept sweep) false g))).off ≡ g.off
+    by true rest = refl
+    by false rest = rest
+
+off_swept : (sweep : Sweep) (off : PutOff) → off_in (swept sweep) off ≡ off
+off_swept sweeps.ShortCleanups off = refl
+off_swept sweeps.ShortTargets off = refl
+off_swept sweeps.Objects off = refl
+off_swept sweeps.LongTargets off = refl
+off_swept sweeps.ShortHolders off = refl
+off_swept sweeps.LongHolders off = refl
+off_swept sweeps.LongCleanups off = refl
+
+abbrev is_sweep : Phase → Bool
+is_sweep (Regions sweep) = true
+is_sweep phase = false
+
+no_sweep : (sweep : Sweep) → is_sweep (swept sweep) ≡ false
+no_sweep sweeps.ShortCleanups = refl
+no_sweep sweeps.ShortTargets = refl
+no_sweep sweeps.Objects = refl
+no_sweep sweeps.LongTargets = refl
+no_sweep sweeps.ShortHolders = refl
+no_sweep sweeps.LongHolders = refl
+no_sweep sweeps.LongCleanups = refl
+
+-- ---- what phases list
+
+entries : {X : Type 0} (m : Map X) (es : List (ℕ × X)) → AreEntriesOf m es → length es ≡ len m
+entries m es are = sym (len_made es are.1) ∙ ap len are.0
+
+links_few : (number : ℕ × ℕ → ℕ) (told : List (ℕ × ℕ)) (links : Map ℕ) (items : List Item) → AreLinks number told links items → length items ≤ len links
+links_few number told links items are =
+    let some = filter (λ (e : ℕ × ℕ). not (is_marked told (number e))) are.0 in
+    let few = fewer_young (λ (e : ℕ × ℕ). not (is_marked told (number e))) are.0 in
+    let long = ap length are.2 ∙ length-map some (λ (e : ℕ × ℕ). of_link (is_unmarked told (number e)) e) in
+    let all = entries links are.0 are.1 in
+    omega (arith, few, long, all)
+
+rows_few : (k : Ephemerons) (items : List Item) → AreEphemerons k items → length items ≤ len k.short + len k.long
+rows_few k items (shorts, longs, short, long, is) =
+    let all = ap length is ∙ length-append shorts longs in
+    let few_short = links_few target_of [] k.short shorts short in
+    let few_long = links_few target_of [] k.long longs long in
+    omega (arith, all, few_short, few_long)
+
+objects_few : (from : ℕ) (told : List (ℕ × ℕ)) (registrations : Map Registration) (late : Set) (items : List Item) → AreObjects from told registrations late items → length items ≤ len registrations
+objects_few from told registrations late items are =
+    let few = fewer_young (λ (e : ℕ × Stored). nat_le from e.1.number && not (is_marked told e.0)) are.0 in
+    let long = ap length are.3 ∙ length-map (filter (λ (e : ℕ × Stored). nat_le from e.1.number && not (is_marked told e.0)) are.0) (λ (e : ℕ × Stored). of_stored (is_unmarked told e.0) e) in
+    let all = sym (length-map are.0 plain) ∙ entries registrations (map plain are.0) are.1 in
+    omega (arith, few, long, all)
+
+cleanups_few : (from : ℕ) (told : List (ℕ × ℕ)) (when : LinkKind) (n : ℕ) (cleanups : Map Attached) (items : List Item) → HasOf when n cleanups → AreCleanups from told when cleanups items → length items ≤ n
+cleanups_few from told when n cleanups items has are =
+    let same = ap length are.2 ∙ length-map are.0 (λ (e : ℕ × Attached). of_cleanup (is_unmarked told e.1.object) e) in
+    let few = has are.0 (record {
+      each = λ k d within.
+          let one = are.1.each k d within in
+          ((retained_back cleanups (nat_le from) (get_or are.0 k d).0 (get_or are.0 k d).1 one.0).1, (and_parts (is_when when (get_or are.0 k d).1.cleanup.when) (not (is_marked told (get_or are.0 k d).1.object)) one.1).0);
+      ordered = are.1.ordered;
+    }) in
+    omega (arith, same, few)
+
+none_before : (a b : ℕ) → a ≤ b → 0 + a ≤ b
+none_before a b le = omega (arith, le)
+
+-- ---- what is to come
+
+-- what comes behind each sweep, beside the ephemerons, and how many of these there are
+module _ (budget : Sweep → ℕ) (es el : ℕ) where
   abbrev e : ℕ
   e = es + el
 
   abbrev later : ℕ
-  later = 3 * g + s + l
+  later = budget sweeps.LongTargets + budget sweeps.ShortHolders + budget sweeps.LongHolders + budget sweeps.LongCleanups
 
   -- what comes when the marks are to become whole at a later moment, by how many ephemerons are put off
   abbrev when_led : ℕ → ℕ
@@ -276,20 +380,20 @@ module _ (r s g es el sc l : ℕ) where
 
   -- what comes behind the marks that are made whole, beside the ephemerons, by how many items are set aside
   abbrev behind_them : Moment → ℕ → ℕ
-  behind_them First aside = sc + (2 * s + 6 * r + later)
+  behind_them First aside = budget sweeps.ShortCleanups + (budget sweeps.ShortTargets + budget sweeps.Objects + later)
   behind_them Led aside = 4 * aside + later
   behind_them Picked aside = 2 * aside + later
   behind_them Last aside = later
 
   -- what comes in the phase behind a sweep and later, by how many ephemerons are put off
   abbrev behind_sweep : Sweep → ℕ → ℕ
-  behind_sweep sweeps.ShortCleanups n = sc + (2 * s + 2 * n + 6 * r + when_led n + later)
-  behind_sweep sweeps.ShortTargets n = 2 * s + 2 * n + 6 * r + when_led n + later
-  behind_sweep sweeps.Objects n = 6 * r + when_led n + later
+  behind_sweep sweeps.ShortCleanups n = budget sweeps.ShortCleanups + (budget sweeps.ShortTargets + 2 * n + budget sweeps.Objects + when_led n + later)
+  behind_sweep sweeps.ShortTargets n = budget sweeps.ShortTargets + 2 * n + budget sweeps.Objects + when_led n + later
+  behind_sweep sweeps.Objects n = budget sweeps.Objects + when_led n + later
   behind_sweep sweeps.LongTargets n = 4 * n + later
-  behind_sweep sweeps.ShortHolders n = g + s + 2 * n + l
-  behind_sweep sweeps.LongHolders n = g + 2 * n + l
-  behind_sweep sweeps.LongCleanups n = l
+  behind_sweep sweeps.ShortHolders n = budget sweeps.LongHolders + budget sweeps.ShortHolders + 2 * n + budget sweeps.LongCleanups
+  behind_sweep sweeps.LongHolders n = budget sweeps.LongHolders + 2 * n + budget sweeps.LongCleanups
+  behind_sweep sweeps.LongCleanups n = budget sweeps.LongCleanups
 
   -- how often a phase and those behind it may go over an item, by how many are kept, left, set aside, and put off
   abbrev to_come : Option Phase → ℕ → ℕ → ℕ → Size → ℕ
@@ -299,28 +403,28 @@ module _ (r s g es el sc l : ℕ) where
   to_come (Some (Holders moment)) kept left aside off = holders_to_come (weight moment) kept left off + behind_them moment aside
   to_come (Some (Values moment)) kept left aside off = values_of (weight moment) left off + behind_them moment aside
   to_come (Some (Regions sweep)) kept left aside off = left + behind_sweep sweep off.rows
-  to_come (Some ShortCleanups) kept left aside off = left + (2 * s + 2 * off.rows + 6 * r + when_led off.rows + later)
-  to_come (Some ShortTargets) kept left aside off = 2 * left + kept + (2 * off.rows + 6 * r + when_led off.rows + later)
-  to_come (Some ShortWords) kept left aside off = left + (2 * off.rows + 6 * r + when_led off.rows + later)
-  to_come (Some ShortKeys) kept left aside off = 2 * left + kept + (6 * r + when_led off.rows + later)
-  to_come (Some ShortKeyWords) kept left aside off = left + (6 * r + when_led off.rows + later)
+  to_come (Some ShortCleanups) kept left aside off = left + (budget sweeps.ShortTargets + 2 * off.rows + budget sweeps.Objects + when_led off.rows + later)
+  to_come (Some ShortTargets) kept left aside off = 2 * left + kept + (2 * off.rows + budget sweeps.Objects + when_led off.rows + later)
+  to_come (Some ShortWords) kept left aside off = left + (2 * off.rows + budget sweeps.Objects + when_led off.rows + later)
+  to_come (Some ShortKeys) kept left aside off = 2 * left + kept + (budget sweeps.Objects + when_led off.rows + later)
+  to_come (Some ShortKeyWords) kept left aside off = left + (budget sweeps.Objects + when_led off.rows + later)
   to_come (Some Objects) kept left aside off = 6 * left + 5 * kept + (when_led off.rows + later)
   to_come (Some Children) kept left aside off = 5 * left + 4 * kept + (when_led off.rows + later)
   to_come (Some Again) kept left aside off = 4 * left + 3 * kept + (when_picked off.rows + later)
   to_come (Some Picks) kept left aside off = 3 * left + 2 * kept + (when_picked off.rows + later)
   to_come (Some LateAgain) kept left aside off = 2 * left + kept + (when_last off.rows + later)
   to_come (Some LatePicks) kept left aside off = left + (when_last off.rows + later)
-  to_come (Some LongTargets) kept left aside off = 2 * left + kept + (g + s + 4 * off.rows + l)
-  to_come (Some LongWords) kept left aside off = left + (g + s + 4 * off.rows + l)
-  to_come (Some LongKeys) kept left aside off = 2 * left + kept + (g + s + 2 * off.rows + l)
-  to_come (Some LongKeyWords) kept left aside off = left + (g + s + 2 * off.rows + l)
-  to_come (Some ShortHolders) kept left aside off = left + (g + 2 * off.rows + l)
-  to_come (Some LongHolders) kept left aside off = left + (2 * off.rows + l)
-  to_come (Some ShortKeyHolders) kept left aside off = left + (off.rows + l)
-  to_come (Some LongKeyHolders) kept left aside off = left + l
+  to_come (Some LongTargets) kept left aside off = 2 * left + kept + (budget sweeps.LongHolders + budget sweeps.ShortHolders + 4 * off.rows + budget sweeps.LongCleanups)
+  to_come (Some LongWords) kept left aside off = left + (budget sweeps.LongHolders + budget sweeps.ShortHolders + 4 * off.rows + budget sweeps.LongCleanups)
+  to_come (Some LongKeys) kept left aside off = 2 * left + kept + (budget sweeps.LongHolders + budget sweeps.ShortHolders + 2 * off.rows + budget sweeps.LongCleanups)
+  to_come (Some LongKeyWords) kept left aside off = left + (budget sweeps.LongHolders + budget sweeps.ShortHolders + 2 * off.rows + budget sweeps.LongCleanups)
+  to_come (Some ShortHolders) kept left aside off = left + (budget sweeps.LongHolders + 2 * off.rows + budget sweeps.LongCleanups)
+  to_come (Some LongHolders) kept left aside off = left + (2 * off.rows + budget sweeps.LongCleanups)
+  to_come (Some ShortKeyHolders) kept left aside off = left + (off.rows + budget sweeps.LongCleanups)
+  to_come (Some LongKeyHolders) kept left aside off = left + budget sweeps.LongCleanups
   to_come (Some LongCleanups) kept left aside off = left
 
-  abbrev to_come_in : Option Phase → Going → ℕ
+  abbrev pub to_come_in : Option Phase → Going → ℕ
   to_come_in phase k = to_come phase (length k.kept) (length k.left) (length k.aside) (size_of k.off)
 
   one_more : (b : Bool) (n : ℕ) → one_if b n ≤ n + 1
@@ -361,15 +465,6 @@ module _ (r s g es el sc l : ℕ) where
 
   -- ---- answers
 
-  abbrev Cleanups : Map Attached → Type 0
-  Cleanups m = HasOf Short sc m × HasOf Long l m
-
-  fewer_cleanups : (m : Map Attached) (number : ℕ) → Cleanups m → Cleanups (remove m number)
-  fewer_cleanups m number h = (fewer_of Short sc m number h.0, fewer_of Long l m number h.1)
-
-  abbrev IsFit : State → Type 0
-  IsFit = IsWithin r s g es el Cleanups
-
   abbrev past_one : Phase → Item → Bool → State → List Item → List Item → List Item → PutOff → List (ℕ × ℕ) → Going
   past_one phase item answer t kept left aside off told = at (after phase item answer t) (kept_on (keeps phase item answer) kept item) left aside (put_off phase item answer off) told
 
@@ -380,98 +475,51 @@ module _ (r s g es el sc l : ℕ) where
         subst (λ k. to_come (Some phase) k (length left) (length aside) (size_of (put_off phase item answer off)) + 1 ≤ to_come (Some phase) (length kept) (suc (length left)) (length aside) (size_of off)) (sym (long_on (keeps phase item answer) kept item))
         (fewer phase item answer (length kept) (length left) (length aside) off)
 
-    steps_fewer : (answers : List Bool) (t : State) (kept left aside : List Item) (off : PutOff) (told : List (ℕ × ℕ)) → IsFit t → length answers ≤ length left
-        → IsFit (steps phase answers (at t kept left aside off told)).finalizers
-        × (length answers + to_come_in (Some phase) (steps phase answers (at t kept left aside off told)) ≤ to_come (Some phase) (length kept) (length left) (length aside) (size_of off))
-    steps_fewer [] t kept left aside off told h few = (h, omega arith)
-    steps_fewer (answer ∷ answers) t kept [] aside off told h few = absurd (omega (arith, few))
-    steps_fewer (answer ∷ answers) t kept (item ∷ left) aside off told h few =
+    pub steps_fewer : (answers : List Bool) (t : State) (kept left aside : List Item) (off : PutOff) (told : List (ℕ × ℕ)) → length answers ≤ length left
+        → length answers + to_come_in (Some phase) (steps phase answers (at t kept left aside off told)) ≤ to_come (Some phase) (length kept) (length left) (length aside) (size_of off)
+    steps_fewer [] t kept left aside off told few = omega arith
+    steps_fewer (answer ∷ answers) t kept [] aside off told few = absurd (omega (arith, few))
+    steps_fewer (answer ∷ answers) t kept (item ∷ left) aside off told few =
         let k = past_one phase item answer t kept left aside off told in
-        let rest = steps_fewer answers k.finalizers k.kept left aside k.off told (still r s g es el Cleanups fewer_cleanups t h phase item answer) (omega (arith, few)) in
+        let rest = steps_fewer answers k.finalizers k.kept left aside k.off told (omega (arith, few)) in
         let one = past_fewer item answer t kept left aside off told in
-        let all = rest.1 in
-        (rest.0, omega (arith, all, one))
+        omega (arith, rest, one)
 
     abbrev IsPast : Going → ℕ → Type 0
-    IsPast k n = IsFit k.finalizers × (to_come_in (Some phase) k ≤ n)
+    IsPast k n = to_come_in (Some phase) k ≤ n
 
-    skips_fewer : (left : List Item) (t : State) (kept aside : List Item) (off : PutOff) (told : List (ℕ × ℕ)) → IsFit t
+    skips_fewer : (left : List Item) (t : State) (kept aside : List Item) (off : PutOff) (told : List (ℕ × ℕ))
         → IsPast (skipped phase left (at t kept left aside off told)) (to_come (Some phase) (length kept) (length left) (length aside) (size_of off))
-    skips_fewer [] t kept aside off told h = (h, omega arith)
-    skips_fewer (item ∷ left) t kept aside off told h =
-        by (is_some (asks phase item)) (skips_fewer left k.finalizers k.kept aside k.off told (still r s g es el Cleanups fewer_cleanups t h phase item false))
+    skips_fewer [] t kept aside off told = omega arith
+    skips_fewer (item ∷ left) t kept aside off told = by (is_some (asks phase item)) (skips_fewer left k.finalizers k.kept aside k.off told)
       where
         k : Going
         k = past_one phase item false t kept left aside off told
 
         by : (b : Bool) → IsPast (skipped phase left (past_one phase item false t kept left aside off told)) (to_come_in (Some phase) (past_one phase item false t kept left aside off told))
             → IsPast (cond b (at t kept (item ∷ left) aside off told) (skipped phase left (past_one phase item false t kept left aside off told))) (to_come (Some phase) (length kept) (suc (length left)) (length aside) (size_of off))
-        by true rest = (h, omega arith)
-        by false rest = let one = past_fewer item false t kept left aside off told in let all = rest.1 in (rest.0, omega (arith, all, one))
+        by true rest = omega arith
+        by false rest = let one = past_fewer item false t kept left aside off told in omega (arith, rest, one)
 
-    skip_fewer : (k : Going) → IsFit k.finalizers → IsPast (skip phase k) (to_come_in (Some phase) k)
-    skip_fewer k h = skips_fewer k.left k.finalizers k.kept k.aside k.off k.told h
+    skip_fewer : (k : Going) → IsPast (skip phase k) (to_come_in (Some phase) k)
+    skip_fewer k = skips_fewer k.left k.finalizers k.kept k.aside k.off k.told
 
   -- ---- the next phase
 
-  entries : {X : Type 0} (m : Map X) (es : List (ℕ × X)) → AreEntriesOf m es → length es ≡ len m
-  entries m es are = sym (len_made es are.1) ∙ ap len are.0
+  -- what the phase behind a sweep lists is no more than what comes behind the sweep
+  abbrev pub IsEnough : Phase → ℕ → Type 0
+  IsEnough (Regions sweep) n = cost sweep n ≤ budget sweep
+  IsEnough phase n = Unit {0}
 
-  links_few : (number : ℕ × ℕ → ℕ) (told : List (ℕ × ℕ)) (links : Map ℕ) (items : List Item) → AreLinks number told links items → length items ≤ len links
-  links_few number told links items are =
-      let some = filter (λ (e : ℕ × ℕ). not (is_marked told (number e))) are.0 in
-      let few = fewer_young (λ (e : ℕ × ℕ). not (is_marked told (number e))) are.0 in
-      let long = ap length are.2 ∙ length-map some (λ (e : ℕ × ℕ). of_link (is_unmarked told (number e)) e) in
-      let all = entries links are.0 are.1 in
-      omega (arith, few, long, all)
-
-  rows_few : (k : Ephemerons) (items : List Item) → AreEphemerons k items → length items ≤ len k.short + len k.long
-  rows_few k items (shorts, longs, short, long, is) =
-      let all = ap length is ∙ length-append shorts longs in
-      let few_short = links_few target_of [] k.short shorts short in
-      let few_long = links_few target_of [] k.long longs long in
-      omega (arith, all, few_short, few_long)
-
-  objects_few : (from : ℕ) (told : List (ℕ × ℕ)) (registrations : Map Registration) (late : Set) (items : List Item) → AreObjects from told registrations late items → length items ≤ len registrations
-  objects_few from told registrations late items are =
-      let few = fewer_young (λ (e : ℕ × Stored). nat_le from e.1.number && not (is_marked told e.0)) are.0 in
-      let long = ap length are.3 ∙ length-map (filter (λ (e : ℕ × Stored). nat_le from e.1.number && not (is_marked told e.0)) are.0) (λ (e : ℕ × Stored). of_stored (is_unmarked told e.0) e) in
-      let all = sym (length-map are.0 plain) ∙ entries registrations (map plain are.0) are.1 in
-      omega (arith, few, long, all)
-
-  cleanups_few : (from : ℕ) (told : List (ℕ × ℕ)) (when : LinkKind) (n : ℕ) (cleanups : Map Attached) (items : List Item) → HasOf when n cleanups → AreCleanups from told when cleanups items → length items ≤ n
-  cleanups_few from told when n cleanups items has are =
-      let same = ap length are.2 ∙ length-map are.0 (λ (e : ℕ × Attached). of_cleanup (is_unmarked told e.1.object) e) in
-      let few = has are.0 (record {
-        each = λ k d within.
-            let one = are.1.each k d within in
-            ((retained_back cleanups (nat_le from) (get_or are.0 k d).0 (get_or are.0 k d).1 one.0).1, (and_parts (is_when when (get_or are.0 k d).1.cleanup.when) (not (is_marked told (get_or are.0 k d).1.object)) one.1).0);
-        ordered = are.1.ordered;
-      }) in
-      omega (arith, same, few)
-
-  module _ (from : ℕ) (told : List (ℕ × ℕ)) (t : State) (h : IsFit t) where
+  module _ (from : ℕ) (told : List (ℕ × ℕ)) (t : State) where
     -- the next phase begins with no more to come
     abbrev IsFewer : Phase → List Item → List Item → PutOff → Option Phase → Type 0
     IsFewer phase kept aside off None = Unit {0}
     IsFewer phase kept aside off (Some next) =
-        (items : List Item) → Lists next from told t (given next kept aside off) items
+        (items : List Item) → IsEnough phase (length items) → Lists next from told t (given next kept aside off) items
         → to_come (Some next) 0 (length items) (length (aside_in next kept aside)) (size_of (off_in next off)) ≤ to_come (Some phase) (length kept) 0 (length aside) (size_of off)
 
-    -- all ephemerons are listed
-    rows_begin : (items : List Item) → AreEphemerons t.ephemerons items → keys_to_come 9 0 (length items) (size_of none_off) ≤ most 11 e
-    rows_begin items are =
-        let count = rows_few t.ephemerons items are in
-        let few_short = h.short_keys in
-        let few_long = h.long_keys in
-        let within : length items ≤ e = omega (arith, count, few_short, few_long) in
-        let few = most_le 9 (length items) e within in
-        let all = two_more 11 9 e refl in
-        let same : 0 + length items + 0 ≡ length items = omega arith in
-        let rest = ap (most 9) same in
-        omega (arith, few, all, rest, within)
-
-    -- or those that are put off, unless they were ended
+    -- the ephemerons that are put off are listed, unless they were ended
     still_few : (p : Item → Bool) (items : List Item) (off : PutOff) → items ≡ filter p (all_off off) → length items ≤ length (all_off off)
     still_few p items off is = let few = fewer_young p (all_off off) in let long = ap length is in omega (arith, few, long)
 
@@ -502,26 +550,26 @@ module _ (r s g es el sc l : ℕ) where
     sweep_turn sweep n items none = let long = ap length none in omega (arith, long)
 
     behind_turn : (moment : Moment) (kept aside : List Item) (off : PutOff) → IsFewer (Values moment) kept aside off (Some (behind moment))
-    behind_turn First kept aside off = λ items is.
+    behind_turn First kept aside off = λ items enough is.
         let n = length (all_off off) in
         let none = sweep_turn sweeps.ShortCleanups n items is in
         let end = values_end 9 n (length off.told) off.again in
         let two = two_more 9 7 n refl in
         let four = two_more 7 5 n refl in
         omega (arith, none, end, two, four)
-    behind_turn Led kept aside off = λ items is.
+    behind_turn Led kept aside off = λ items enough is.
         let n = length (all_off off) in
         let same = ap length is in
         let end = values_end 5 n (length off.told) off.again in
         let two = two_more 5 3 n refl in
         omega (arith, same, end, two)
-    behind_turn Picked kept aside off = λ items is.
+    behind_turn Picked kept aside off = λ items enough is.
         let n = length (all_off off) in
         let same = ap length is in
         let end = values_end 3 n (length off.told) off.again in
         let two = two_more 3 1 n refl in
         omega (arith, same, end, two)
-    behind_turn Last kept aside off = λ items is.
+    behind_turn Last kept aside off = λ items enough is.
         let n = length (all_off off) in
         let none = sweep_turn sweeps.LongTargets n items is in
         let end = values_end 1 n (length off.told) off.again in
@@ -529,76 +577,123 @@ module _ (r s g es el sc l : ℕ) where
         omega (arith, none, end, few)
 
     swept_turn : (sweep : Sweep) (kept aside : List Item) (off : PutOff) → IsFewer (Regions sweep) kept aside off (Some (swept sweep))
-    swept_turn sweeps.ShortCleanups kept aside off = λ items are. let few = cleanups_few from told Short sc t.cleanups items h.attached.0 are in omega (arith, few)
-    swept_turn sweeps.ShortTargets kept aside off = λ items are. let many = links_few target_of told t.short items are in let few = h.short in omega (arith, many, few)
-    swept_turn sweeps.Objects kept aside off = λ items are. let many = objects_few from told t.registrations t.late items are in let few = h.registered in omega (arith, many, few)
-    swept_turn sweeps.LongTargets kept aside off = λ items are. let many = links_few target_of told t.long items are in let few = h.long in omega (arith, many, few)
-    swept_turn sweeps.ShortHolders kept aside off = λ items are. let many = links_few word_of told t.short items are in let few = h.short in omega (arith, many, few)
-    swept_turn sweeps.LongHolders kept aside off = λ items are. let many = links_few word_of told t.long items are in let few = h.long in omega (arith, many, few)
-    swept_turn sweeps.LongCleanups kept aside off = λ items are. let few = cleanups_few from told Long l t.cleanups items h.attached.1 are in omega (arith, few)
+    swept_turn sweeps.ShortCleanups kept aside off = λ items enough are. omega (arith, enough)
+    swept_turn sweeps.ShortTargets kept aside off = λ items enough are. omega (arith, enough)
+    swept_turn sweeps.Objects kept aside off = λ items enough are. omega (arith, enough)
+    swept_turn sweeps.LongTargets kept aside off = λ items enough are. omega (arith, enough)
+    swept_turn sweeps.ShortHolders kept aside off = λ items enough are. omega (arith, enough)
+    swept_turn sweeps.LongHolders kept aside off = λ items enough are. omega (arith, enough)
+    swept_turn sweeps.LongCleanups kept aside off = λ items enough are. omega (arith, enough)
 
     turns_fewer : (phase : Phase) (kept aside : List Item) (off : PutOff) → IsFewer phase kept aside off (next_phase phase (looks_again off))
-    turns_fewer (Keys moment) kept aside off = λ items is. keys_turn moment kept aside items off is
-    turns_fewer (KeysAgain moment) kept aside off = λ items is. keys_turn moment kept aside items off is
-    turns_fewer (Holders moment) kept aside off = λ items is. holders_turn moment kept aside items off is
+    turns_fewer (Keys moment) kept aside off = λ items enough is. keys_turn moment kept aside items off is
+    turns_fewer (KeysAgain moment) kept aside off = λ items enough is. keys_turn moment kept aside items off is
+    turns_fewer (Holders moment) kept aside off = λ items enough is. holders_turn moment kept aside items off is
     turns_fewer (Values moment) kept aside off = by (looks_again off) refl
       where
         by : (more : Bool) → looks_again off ≡ more → IsFewer (Values moment) kept aside off (next_phase (Values moment) more)
         by false over = behind_turn moment kept aside off
-        by true again = λ items is. let few = again_fewer (weight moment) items off again is in omega (arith, few)
+        by true again = λ items enough is. let few = again_fewer (weight moment) items off again is in omega (arith, few)
     turns_fewer (Regions sweep) kept aside off = swept_turn sweep kept aside off
-    turns_fewer ShortCleanups kept aside off = λ items is. let none = sweep_turn sweeps.ShortTargets (length (all_off off)) items is in omega (arith, none)
-    turns_fewer ShortTargets kept aside off = λ items is. let same = ap length is in omega (arith, same)
-    turns_fewer ShortWords kept aside off = λ items is. let few = still_few (is_still (Some Short) t.ephemerons) items off is in omega (arith, few)
-    turns_fewer ShortKeys kept aside off = λ items is. let same = ap length is in omega (arith, same)
-    turns_fewer ShortKeyWords kept aside off = λ items is. let none = sweep_turn sweeps.Objects (length (all_off off)) items is in omega (arith, none)
-    turns_fewer Objects kept aside off = λ items is. let same = ap length is in omega (arith, same)
-    turns_fewer Children kept aside off = λ items is. let few = still_begin 5 (is_still None t.ephemerons) items off is in omega (arith, few)
-    turns_fewer Again kept aside off = λ items turned. let same = length_permutation kept items turned.0 in omega (arith, same)
-    turns_fewer Picks kept aside off = λ items is. let few = still_begin 3 (is_still None t.ephemerons) items off is in omega (arith, few)
-    turns_fewer LateAgain kept aside off = λ items is. let same = ap length is in omega (arith, same)
-    turns_fewer LatePicks kept aside off = λ items is. let few = still_begin 1 (is_still None t.ephemerons) items off is in omega (arith, few)
-    turns_fewer LongTargets kept aside off = λ items is. let same = ap length is in omega (arith, same)
-    turns_fewer LongWords kept aside off = λ items is. let few = still_few (is_still (Some Long) t.ephemerons) items off is in omega (arith, few)
-    turns_fewer LongKeys kept aside off = λ items is. let same = ap length is in omega (arith, same)
-    turns_fewer LongKeyWords kept aside off = λ items is. let none = sweep_turn sweeps.ShortHolders (length (all_off off)) items is in omega (arith, none)
-    turns_fewer ShortHolders kept aside off = λ items is. let none = sweep_turn sweeps.LongHolders (length (all_off off)) items is in omega (arith, none)
-    turns_fewer LongHolders kept aside off = λ items is. let few = still_few (is_still (Some Short) t.ephemerons) items off is in omega (arith, few)
-    turns_fewer ShortKeyHolders kept aside off = λ items is. let few = still_few (is_still (Some Long) t.ephemerons) items off is in omega (arith, few)
-    turns_fewer LongKeyHolders kept aside off = λ items is. let none = sweep_turn sweeps.LongCleanups (length (all_off off)) items is in omega (arith, none)
+    turns_fewer ShortCleanups kept aside off = λ items enough is. let none = sweep_turn sweeps.ShortTargets (length (all_off off)) items is in omega (arith, none)
+    turns_fewer ShortTargets kept aside off = λ items enough is. let same = ap length is in omega (arith, same)
+    turns_fewer ShortWords kept aside off = λ items enough is. let few = still_few (is_still (Some Short) t.ephemerons) items off is in omega (arith, few)
+    turns_fewer ShortKeys kept aside off = λ items enough is. let same = ap length is in omega (arith, same)
+    turns_fewer ShortKeyWords kept aside off = λ items enough is. let none = sweep_turn sweeps.Objects (length (all_off off)) items is in omega (arith, none)
+    turns_fewer Objects kept aside off = λ items enough is. let same = ap length is in omega (arith, same)
+    turns_fewer Children kept aside off = λ items enough is. let few = still_begin 5 (is_still None t.ephemerons) items off is in omega (arith, few)
+    turns_fewer Again kept aside off = λ items enough turned. let same = length_permutation kept items turned.0 in omega (arith, same)
+    turns_fewer Picks kept aside off = λ items enough is. let few = still_begin 3 (is_still None t.ephemerons) items off is in omega (arith, few)
+    turns_fewer LateAgain kept aside off = λ items enough is. let same = ap length is in omega (arith, same)
+    turns_fewer LatePicks kept aside off = λ items enough is. let few = still_begin 1 (is_still None t.ephemerons) items off is in omega (arith, few)
+    turns_fewer LongTargets kept aside off = λ items enough is. let same = ap length is in omega (arith, same)
+    turns_fewer LongWords kept aside off = λ items enough is. let few = still_few (is_still (Some Long) t.ephemerons) items off is in omega (arith, few)
+    turns_fewer LongKeys kept aside off = λ items enough is. let same = ap length is in omega (arith, same)
+    turns_fewer LongKeyWords kept aside off = λ items enough is. let none = sweep_turn sweeps.ShortHolders (length (all_off off)) items is in omega (arith, none)
+    turns_fewer ShortHolders kept aside off = λ items enough is. let none = sweep_turn sweeps.LongHolders (length (all_off off)) items is in omega (arith, none)
+    turns_fewer LongHolders kept aside off = λ items enough is. let few = still_few (is_still (Some Short) t.ephemerons) items off is in omega (arith, few)
+    turns_fewer ShortKeyHolders kept aside off = λ items enough is. let few = still_few (is_still (Some Long) t.ephemerons) items off is in omega (arith, few)
+    turns_fewer LongKeyHolders kept aside off = λ items enough is. let none = sweep_turn sweeps.LongCleanups (length (all_off off)) items is in omega (arith, none)
     turns_fewer LongCleanups kept aside off = tt
 
-  goes_fewer : {from : ℕ} (phase : Phase) (k : Going) (last : Option Phase) (m : Going) → GoesOn from phase k last m → IsFit k.finalizers → IsFit m.finalizers × (to_come_in last m ≤ to_come_in (Some phase) k)
-  goes_fewer phase k last m (Asks item left some) h = skip_fewer phase k h
-  goes_fewer phase k last m Sweeps h = (h, omega arith)
-  goes_fewer {from = from} phase k last m (Turns {next = next} {h = n} none turns begins rest) h =
-      let past = skip_fewer phase k h in
-      let p = skip phase k in
-      let on = goes_fewer next n last m rest (subst IsFit (sym begins.same) past.0) in
-      let turn : to_come (Some next) 0 (length n.left) (length (aside_in next p.kept p.aside)) (size_of (off_in next p.off)) ≤ to_come (Some phase) (length p.kept) 0 (length p.aside) (size_of p.off) =
-      subst (IsFewer from p.told p.finalizers past.0 phase p.kept p.aside p.off) turns (turns_fewer from p.told p.finalizers past.0 phase p.kept p.aside p.off) n.left begins.lists in
-      let here : to_come_in (Some next) n ≤ to_come (Some phase) (length p.kept) 0 (length p.aside) (size_of p.off) =
-      subst (λ (x : Going). to_come_in (Some next) x ≤ to_come (Some phase) (length p.kept) 0 (length p.aside) (size_of p.off))
-      (λ i. record { finalizers = n.finalizers; kept = sym begins.none i; left = n.left; aside = sym begins.aside i; off = sym begins.off i; told = n.told }) turn in
-      let there : to_come (Some phase) (length p.kept) 0 (length p.aside) (size_of p.off) ≤ to_come_in (Some phase) k =
-      subst (λ (xs : List Item). to_come (Some phase) (length p.kept) (length xs) (length p.aside) (size_of p.off) ≤ to_come_in (Some phase) k) none past.1 in
-      let all = on.1 in
-      (on.0, omega (arith, all, here, there))
-  goes_fewer phase k last m (Ends none turns) h = let past = skip_fewer phase k h in (past.0, omega arith)
+  -- in the phase behind a sweep none is left to ask about, and what it keeps is no more than what comes behind the sweep
+  abbrev pub IsPassed : Phase → Phase → Going → Type 0
+  IsPassed (Regions sweep) next k = ((skip next k).left ≡ []) × (cost_kept sweep (length (skip next k).kept) ≤ budget sweep)
+  IsPassed phase next k = ⊥
+
+  -- so much is listed behind each sweep
+  abbrev pub AreFewListed : {from : ℕ} (phase : Phase) (g : Going) (last : Option Phase) (k : Going) → GoesOn from phase g last k → Type 0
+  AreFewListed phase g last k (Asks item left some) = Unit {0}
+  AreFewListed phase g last k Sweeps = Unit {0}
+  AreFewListed phase g last k (Turns {next = next} {h = h} none turns begins rest) = (IsEnough phase (length h.left) ⊎ IsPassed phase next h) × AreFewListed next h last k rest
+  AreFewListed phase g last k (Ends none turns) = Unit {0}
+
+  -- what is to come once no item of a phase is left
+  abbrev to_come_past : Phase → Going → ℕ
+  to_come_past phase p = to_come (Some phase) (length p.kept) 0 (length p.aside) (size_of p.off)
+
+  turn_here : {from : ℕ} (phase next : Phase) (p n : Going) → next_phase phase (looks_again p.off) ≡ Some next → Begins from next p n → IsEnough phase (length n.left) → to_come_in (Some next) n ≤ to_come_past phase p
+  turn_here {from = from} phase next p n turns begins enough =
+      subst (λ (x : Going). to_come_in (Some next) x ≤ to_come_past phase p)
+      (λ i. record { finalizers = n.finalizers; kept = sym begins.none i; left = n.left; aside = sym begins.aside i; off = sym begins.off i; told = n.told })
+      (subst (IsFewer from p.told p.finalizers phase p.kept p.aside p.off) turns (turns_fewer from p.told p.finalizers phase p.kept p.aside p.off) n.left enough begins.lists)
+
+  -- past a sweep and the phase behind it
+  past_sweep : (sweep : Sweep) (kept before aside other : ℕ) (off : Size) → cost_kept sweep kept ≤ budget sweep → to_come (Some (swept sweep)) kept 0 aside off ≤ to_come (Some (Regions sweep)) before 0 other off
+  past_sweep sweeps.ShortCleanups kept before aside other off few = omega arith
+  past_sweep sweeps.ShortTargets kept before aside other off few = omega (arith, few)
+  past_sweep sweeps.Objects kept before aside other off few = omega (arith, few)
+  past_sweep sweeps.LongTargets kept before aside other off few = omega (arith, few)
+  past_sweep sweeps.ShortHolders kept before aside other off few = omega arith
+  past_sweep sweeps.LongHolders kept before aside other off few = omega arith
+  past_sweep sweeps.LongCleanups kept before aside other off few = omega arith
+
+  no_more : (a b c : ℕ) → a ≤ b → b ≤ c → a ≤ c
+  no_more a b c x y = omega (arith, x, y)
+
+  passed_on : {from : ℕ} (all : ℕ) (phase next : Phase) (p n : Going) → next_phase phase (looks_again p.off) ≡ Some next → Begins from next p n → IsPassed phase next n → (is_sweep next ≡ false → all ≤ to_come_in (Some next) (skip next n)) → all ≤ to_come_past phase p
+  passed_on {from = from} all (Regions sweep) next p n turns begins passed rest =
+      subst (λ (o : Phase). Begins from o p n → IsPassed (Regions sweep) o n → (is_sweep o ≡ false → all ≤ to_come_in (Some o) (skip o n)) → all ≤ to_come_past (Regions sweep) p) (same_Some (swept sweep) next turns) behind begins passed rest
+    where
+      behind : Begins from (swept sweep) p n → IsPassed (Regions sweep) (swept sweep) n → (is_sweep (swept sweep) ≡ false → all ≤ to_come_in (Some (swept sweep)) (skip (swept sweep) n)) → all ≤ to_come_past (Regions sweep) p
+      behind starts (none, few) follows =
+          let q : Going = skip (swept sweep) n in
+          let off : q.off ≡ p.off = skipped_off sweep n.left n ∙ starts.off ∙ off_swept sweep p.off in
+          let left = subst (λ (xs : List Item). all ≤ to_come (Some (swept sweep)) (length q.kept) (length xs) (length q.aside) (size_of q.off)) none (follows (no_sweep sweep)) in
+          let past = past_sweep sweep (length q.kept) (length p.kept) (length q.aside) (length p.aside) (size_of q.off) few in
+          subst (λ (x : PutOff). all ≤ to_come (Some (Regions sweep)) (length p.kept) 0 (length p.aside) (size_of x)) off
+          (no_more all (to_come (Some (swept sweep)) (length q.kept) 0 (length q.aside) (size_of q.off)) (to_come (Some (Regions sweep)) (length p.kept) 0 (length p.aside) (size_of q.off)) left past)
+  passed_on all phase next p n turns begins passed rest = absurd passed
+
+  -- there is no more to come than before, and but for a sweep no more than once the items are skipped that aren't asked about
+  goes_on_fewer : {from : ℕ} (phase : Phase) (k : Going) (last : Option Phase) (m : Going) (goes : GoesOn from phase k last m) → AreFewListed phase k last m goes
+      → (to_come_in last m ≤ to_come_in (Some phase) k) × (is_sweep phase ≡ false → to_come_in last m ≤ to_come_in (Some phase) (skip phase k))
+  goes_on_fewer phase k last m (Asks item left some) few = (skip_fewer phase k, λ other. omega arith)
+  goes_on_fewer phase k last m Sweeps few = (omega arith, λ other. absurd (true≢false other))
+  goes_on_fewer phase k last m (Turns {next = next} {h = n} none turns begins rest) (listed, few) =
+      let on = goes_on_fewer next n last m rest few in
+      let p : Going = skip phase k in
+      let past : to_come_in last m ≤ to_come_past phase p =
+      ⊎_elim
+      (λ (enough : IsEnough phase (length n.left)). no_more (to_come_in last m) (to_come_in (Some next) n) (to_come_past phase p) on.0 (turn_here phase next p n turns begins enough))
+      (λ (passed : IsPassed phase next n). passed_on (to_come_in last m) phase next p n turns begins passed on.1) listed in
+      let here : to_come_in last m ≤ to_come_in (Some phase) p =
+      subst (λ (xs : List Item). to_come_in last m ≤ to_come (Some phase) (length p.kept) (length xs) (length p.aside) (size_of p.off)) (sym none) past in
+      (no_more (to_come_in last m) (to_come_in (Some phase) p) (to_come_in (Some phase) k) here (skip_fewer phase k), λ other. here)
+  goes_on_fewer phase k last m (Ends none turns) few = (omega arith, λ other. omega arith)
 
   -- ---- a run
 
   abbrev to_come_at : Machine → ℕ
   to_come_at m = to_come m.phase (length m.walk.kept) (length m.walk.left) (length m.walk.aside) (size_of m.walk.off)
 
-  abbrev all_to_come : ℕ
+  abbrev pub all_to_come : ℕ
   all_to_come = most 11 e + behind_them First 0
 
-  record IsHearing (n : ℕ) (m : Machine) : Type 0 where
-    within : IsFit m.finalizers.state
-    few : n + to_come_at m ≤ all_to_come
-    asked : (p : Phase) → m.phase ≡ Some p → m.asked ≤ length m.walk.left
-    some : (moment : Moment) → m.phase ≡ Some (Values moment) → 0 < length m.walk.left
+  pub record IsHearing (n : ℕ) (m : Machine) : Type 0 where
+    pub few : n + to_come_at m ≤ all_to_come
+    pub asked : (p : Phase) → m.phase ≡ Some p → m.asked ≤ length m.walk.left
+    pub some : (moment : Moment) → m.phase ≡ Some (Values moment) → 0 < length m.walk.left
 
   asked_for : (m : Machine) (next : Next) → Tells m next → (p : Phase) → m.phase ≡ Some p → m.asked ≤ length m.walk.left
   asked_for m (told.Asks question) (phase, was, inl items) p at =
@@ -607,11 +702,6 @@ module _ (r s g es el sc l : ℕ) where
       omega (arith, within, count)
   asked_for m (told.Asks question) (phase, was, inr regions) p at = let none = regions.asked in omega (arith, none)
   asked_for m (told.Ended passed) (none, same, picked) p at = absurd (none-some p (sym none ∙ at))
-
-  worked_within : (t u : State) (event : Event) → IsWork event → Follows t event u → IsFit t → IsFit u
-  worked_within t u event work follows h =
-      let there = subst (IsFit) (sym (work_apart 0 [] t u event work follows)) (record { registered = h.registered; short = h.short; long = h.long; short_keys = h.short_keys; long_keys = h.long_keys; attached = h.attached }) in
-      record { registered = there.registered; short = there.short; long = there.long; short_keys = there.short_keys; long_keys = there.long_keys; attached = there.attached }
 
   -- what the host tells leaves no more to come, since it does so while a value is asked about
   values_told : (key : ℕ) (moment : Moment) (kept left aside : ℕ) (was now : PutOff) → TellsOff key was now → 0 < left → to_come (Some (Values moment)) kept left aside (size_of now) ≤ to_come (Some (Values moment)) kept left aside (size_of was)
@@ -627,55 +717,149 @@ module _ (r s g es el sc l : ℕ) where
   told_fewer key phase kept left aside was now tells some = let same = ap (λ (off : PutOff). to_come phase kept left aside (size_of off)) tells in omega (arith, same)
 
   -- an answer is about one item more, and words are about none
-  goes_few : {from : ℕ} (phase : Phase) (before : ℕ) (old m : Machine) (n : ℕ) (k : Going) (next : Next) → old.phase ≡ Some phase → IsFit k.finalizers → n + to_come_in (Some phase) k ≤ to_come_in (Some phase) (going_of old) → GoesOn from phase k m.phase (going_of m)
-      → Tells m next → before + to_come_at old ≤ all_to_come → IsHearing (before + n) m
-  goes_few phase before old m n k next at fit few goes tells all =
-      let on = goes_fewer phase k m.phase (going_of m) goes fit in
-      let there = on.1 in
-      let so_far = subst (λ o. before + to_come o (length old.walk.kept) (length old.walk.left) (length old.walk.aside) (size_of old.walk.off) ≤ all_to_come) at all in
+  pub goes_few : {from : ℕ} (phase : Phase) (before : ℕ) (old m : Machine) (n : ℕ) (k : Going) (t : State) (next : Next) → old.phase ≡ Some phase → n + to_come_in (Some phase) k ≤ to_come_in (Some phase) (going_of old)
+      → (goes : GoesOn from phase k m.phase (record (going_of m) { finalizers = t })) → AreFewListed phase k m.phase (record (going_of m) { finalizers = t }) goes → Tells m next → IsHearing before old → IsHearing (before + n) m
+  goes_few phase before old m n k t next at few goes listed tells was =
+      let there = (goes_on_fewer phase k m.phase (record (going_of m) { finalizers = t }) goes listed).0 in
+      let so_far = subst (λ o. before + to_come o (length old.walk.kept) (length old.walk.left) (length old.walk.aside) (size_of old.walk.off) ≤ all_to_come) at was.few in
       record {
-        within = on.0;
         few = omega (arith, so_far, few, there);
         asked = asked_for m next tells;
-        some = λ moment here. stops phase k m.phase (going_of m) goes moment here;
+        some = λ moment here. stops phase k m.phase (record (going_of m) { finalizers = t }) goes moment here;
       }
 
-  heard : (begun m : Machine) (n : ℕ) → IsHearing 0 begun → Hears begun m n → IsHearing n m
-  heard begun m n h Begun = h
-  heard begun m n h (Goes {m = old} {next = next} {n = before} answers few goes hears) =
-      let was = heard begun old before h hears in
-      let asked = was.asked goes.phase goes.was in
-      let stepped = steps_fewer goes.phase answers old.finalizers.state old.walk.kept old.walk.left old.walk.aside old.walk.off old.told was.within (omega (arith, few, asked)) in
-      goes_few goes.phase before old m (length answers) (steps goes.phase answers (going_of old)) next goes.was stepped.0 stepped.1
-      (subst (λ (k : Going). GoesOn old.from goes.phase k m.phase (going_of m)) (heard_answers goes.phase old.regions answers (going_of old)) goes.goes) goes.tells was.few
-  heard begun m n h (Learns {m = old} {next = next} {n = before} words goes hears) =
-      let was = heard begun old before h hears in
-      let k : Going = record (going_of old) { told = (heard_by goes.phase old.regions (Words words) (going_of old)).told } in
-      let all : before + 0 ≡ before = omega arith in
-      subst (λ x. IsHearing x m) all
-      (goes_few goes.phase before old m 0 k next goes.was was.within (omega arith) (subst (λ (x : Going). GoesOn old.from goes.phase x m.phase (going_of m)) (heard_words goes.phase old.regions words (going_of old)) goes.goes) goes.tells was.few)
-  heard begun m n h (Meanwhile {m = old} worked hears) =
-      let was = heard begun old n h hears in
-      let now = worked_within old.finalizers.state m.finalizers.state worked.event worked.work worked.follows was.within in
-      record {
-        within = now;
-        few = subst (λ (k : Machine). n + to_come_at k ≤ all_to_come) (sym worked.keeps) was.few;
-        asked = λ p at. subst (λ (k : Machine). k.asked ≤ length k.walk.left) (sym worked.keeps) (was.asked p (sym (ap (λ (k : Machine). k.phase) worked.keeps) ∙ at));
-        some = λ moment at. subst (λ xs. 0 < length xs) (sym (ap (λ (k : Machine). k.walk.left) worked.keeps)) (was.some moment (sym (ap (λ (k : Machine). k.phase) worked.keeps) ∙ at));
-      }
-  heard begun m n h (Told {m = old} key tells hears) =
-      let was = heard begun old n h hears in
+  pub answers_few : (phase : Phase) (answers : List Bool) (m : Machine) (t : State) → length answers ≤ length m.walk.left → length answers + to_come_in (Some phase) (steps phase answers (record (going_of m) { finalizers = t })) ≤ to_come_in (Some phase) (going_of m)
+  answers_few phase answers m t few = steps_fewer phase answers t m.walk.kept m.walk.left m.walk.aside m.walk.off m.told few
+
+  pub worked_few : (n : ℕ) (old m : Machine) → IsWorked old m → IsHearing n old → IsHearing n m
+  worked_few n old m worked was = record {
+    few = subst (λ (k : Machine). n + to_come_at k ≤ all_to_come) (sym worked.keeps) was.few;
+    asked = λ p at. subst (λ (k : Machine). k.asked ≤ length k.walk.left) (sym worked.keeps) (was.asked p (sym (ap (λ (k : Machine). k.phase) worked.keeps) ∙ at));
+    some = λ moment at. subst (λ xs. 0 < length xs) (sym (ap (λ (k : Machine). k.walk.left) worked.keeps)) (was.some moment (sym (ap (λ (k : Machine). k.phase) worked.keeps) ∙ at));
+  }
+
+  pub told_few : (n key : ℕ) (old m : Machine) → IsTold key old m → IsHearing n old → IsHearing n m
+  told_few n key old m tells was =
       let so_far = was.few in
       let less = told_fewer key old.phase (length old.walk.kept) (length old.walk.left) (length old.walk.aside) old.walk.off m.walk.off tells.off was.some in
       record {
-        within = subst (λ (k : Machine). IsFit k.finalizers.state) (sym tells.same) was.within;
         few = subst (λ (k : Machine). n + to_come_at k ≤ all_to_come) (sym tells.same) (omega (arith, so_far, less));
         asked = λ p at. subst (λ (k : Machine). k.asked ≤ length k.walk.left) (sym tells.same) (was.asked p (sym (ap (λ (k : Machine). k.phase) tells.same) ∙ at));
         some = λ moment at. subst (λ (k : Machine). 0 < length k.walk.left) (sym tells.same) (was.some moment (sym (ap (λ (k : Machine). k.phase) tells.same) ∙ at));
       }
 
-none_before : (a b : ℕ) → a ≤ b → 0 + a ≤ b
-none_before a b le = omega (arith, le)
+  -- all ephemerons are listed
+  rows_begin : (k : Ephemerons) → len k.short ≤ es → len k.long ≤ el → (items : List Item) → AreEphemerons k items → keys_to_come 9 0 (length items) (size_of none_off) ≤ most 11 e
+  rows_begin k few_short few_long items are =
+      let count = rows_few k items are in
+      let within : length items ≤ e = omega (arith, count, few_short, few_long) in
+      let few = most_le 9 (length items) e within in
+      let all = two_more 11 9 e refl in
+      let same : 0 + length items + 0 ≡ length items = omega arith in
+      let rest = ap (most 9) same in
+      omega (arith, few, all, rest, within)
+
+  pub begins_few : (from : ℕ) (old begun : Machine) → IsBegunFrom from old begun → len old.finalizers.state.ephemerons.short ≤ es → len old.finalizers.state.ephemerons.long ≤ el → IsHearing 0 begun
+  begins_few from old begun is few_short few_long =
+      let t = old.finalizers.state in
+      let listed : AreEphemerons t.ephemerons begun.walk.left = subst (λ (u : State). AreEphemerons u.ephemerons begun.walk.left) is.finalizers is.begins.lists in
+      let few = rows_begin t.ephemerons few_short few_long begun.walk.left listed in
+      let first : to_come (Some (Keys First)) 0 (length begun.walk.left) 0 (size_of none_off) ≤ all_to_come = omega (arith, few) in
+      record {
+        few = subst (λ o. 0 + to_come o (length begun.walk.kept) (length begun.walk.left) (length begun.walk.aside) (size_of begun.walk.off) ≤ all_to_come) (sym is.phase)
+            (none_before (to_come (Some (Keys First)) (length begun.walk.kept) (length begun.walk.left) (length begun.walk.aside) (size_of begun.walk.off)) all_to_come
+            (subst (λ (k : Going). to_come_in (Some (Keys First)) k ≤ all_to_come)
+            (λ i. record { finalizers = t; kept = sym is.begins.none i; left = begun.walk.left; aside = sym is.begins.aside i; off = sym is.begins.off i; told = begun.told }) first));
+        asked = λ p at. let none = is.asked in omega (arith, none);
+        some = λ moment at. absurd (not_values moment (sym is.phase ∙ at));
+      }
+
+-- ---- how many items there are at most, whatever is told
+
+module _ (r s g es el sc l : ℕ) where
+  -- each list that is processed behind a sweep
+  abbrev pub sized : Sweep → ℕ
+  sized sweeps.ShortCleanups = sc
+  sized sweeps.ShortTargets = 2 * s
+  sized sweeps.Objects = 6 * r
+  sized sweeps.LongTargets = 2 * g
+  sized sweeps.ShortHolders = s
+  sized sweeps.LongHolders = g
+  sized sweeps.LongCleanups = l
+
+  abbrev Cleanups : Map Attached → Type 0
+  Cleanups m = HasOf Short sc m × HasOf Long l m
+
+  fewer_cleanups : (m : Map Attached) (number : ℕ) → Cleanups m → Cleanups (remove m number)
+  fewer_cleanups m number h = (fewer_of Short sc m number h.0, fewer_of Long l m number h.1)
+
+  abbrev pub IsFit : State → Type 0
+  IsFit = IsWithin r s g es el Cleanups
+
+  pub fit_still : (phase : Phase) (item : Item) (answer : Bool) (t : State) → IsFit t → IsFit (after phase item answer t)
+  fit_still phase item answer t h = still r s g es el Cleanups fewer_cleanups t h phase item answer
+
+  pub fit_worked : (old m : Machine) → IsWorked old m → IsFit old.finalizers.state → IsFit m.finalizers.state
+  fit_worked old m worked h =
+      let there = subst IsFit (sym (work_apart 0 [] old.finalizers.state m.finalizers.state worked.event worked.work worked.follows)) (record { registered = h.registered; short = h.short; long = h.long; short_keys = h.short_keys; long_keys = h.long_keys; attached = h.attached }) in
+      record { registered = there.registered; short = there.short; long = there.long; short_keys = there.short_keys; long_keys = there.long_keys; attached = there.attached }
+
+  -- what the phase behind a sweep lists
+  pub fit_swept : (from : ℕ) (told : List (ℕ × ℕ)) (t : State) → IsFit t → (sweep : Sweep) (given items : List Item) → Lists (swept sweep) from told t given items → cost sweep (length items) ≤ sized sweep
+  fit_swept from told t h sweeps.ShortCleanups given items are = let few = cleanups_few from told Short sc t.cleanups items h.attached.0 are in omega (arith, few)
+  fit_swept from told t h sweeps.ShortTargets given items are = let many = links_few target_of told t.short items are in let few = h.short in omega (arith, many, few)
+  fit_swept from told t h sweeps.Objects given items are = let many = objects_few from told t.registrations t.late items are in let few = h.registered in omega (arith, many, few)
+  fit_swept from told t h sweeps.LongTargets given items are = let many = links_few target_of told t.long items are in let few = h.long in omega (arith, many, few)
+  fit_swept from told t h sweeps.ShortHolders given items are = let many = links_few word_of told t.short items are in let few = h.short in omega (arith, many, few)
+  fit_swept from told t h sweeps.LongHolders given items are = let many = links_few word_of told t.long items are in let few = h.long in omega (arith, many, few)
+  fit_swept from told t h sweeps.LongCleanups given items are = let few = cleanups_few from told Long l t.cleanups items h.attached.1 are in omega (arith, few)
+
+  -- so what begins is no more than that
+  pub fit_begins : {from : ℕ} (phase next : Phase) (p n : Going) → IsFit p.finalizers → next_phase phase (looks_again p.off) ≡ Some next → Begins from next p n → IsEnough sized es el phase (length n.left)
+  fit_begins {from = from} (Regions sweep) next p n fit turns begins =
+      fit_swept from p.told p.finalizers fit sweep (given (swept sweep) p.kept p.aside p.off) n.left
+      (subst (λ (o : Phase). Lists o from p.told p.finalizers (given o p.kept p.aside p.off) n.left) (sym (same_Some (swept sweep) next turns)) begins.lists)
+  fit_begins phase next p n fit turns begins = tt
+
+  few_listed : {from : ℕ} (phase : Phase) (g : Going) (last : Option Phase) (k : Going) (goes : GoesOn from phase g last k) → IsFit g.finalizers → AreFewListed sized es el phase g last k goes
+  few_listed phase g last k (Asks item left some) fit = tt
+  few_listed phase g last k Sweeps fit = tt
+  few_listed phase g last k (Turns {next = next} {h = n} none turns begins rest) fit =
+      let past = skip_keeps IsFit fit_still phase g fit in
+      (inl (fit_begins phase next (skip phase g) n past turns begins), few_listed next n last k rest (subst IsFit (sym begins.same) past))
+  few_listed phase g last k (Ends none turns) fit = tt
+
+  record IsOn (n : ℕ) (m : Machine) : Type 0 where
+    fit : IsFit m.finalizers.state
+    hears : IsHearing sized es el n m
+
+  heard : (begun m : Machine) (n : ℕ) → IsOn 0 begun → Hears begun m n → IsOn n m
+  heard begun m n h Begun = h
+  heard begun m n h (Goes {m = old} {next = next} {n = before} answers few goes hears) =
+      let was = heard begun old before h hears in
+      let asked = was.hears.asked goes.phase goes.was in
+      let k : Going = steps goes.phase answers (going_of old) in
+      let fit = steps_keep IsFit fit_still goes.phase answers (going_of old) was.fit in
+      let on : GoesOn old.from goes.phase k m.phase (going_of m) = subst (λ (x : Going). GoesOn old.from goes.phase x m.phase (going_of m)) (heard_answers goes.phase old.regions answers (going_of old)) goes.goes in
+      record {
+        fit = goes_keep IsFit fit_still goes.phase k m.phase (going_of m) on fit;
+        hears = goes_few sized es el goes.phase before old m (length answers) k m.finalizers.state next goes.was (answers_few sized es el goes.phase answers old old.finalizers.state (omega (arith, few, asked))) on (few_listed goes.phase k m.phase (going_of m) on fit) goes.tells was.hears;
+      }
+  heard begun m n h (Learns {m = old} {next = next} {n = before} words goes hears) =
+      let was = heard begun old before h hears in
+      let k : Going = record (going_of old) { told = (heard_by goes.phase old.regions (Words words) (going_of old)).told } in
+      let on : GoesOn old.from goes.phase k m.phase (going_of m) = subst (λ (x : Going). GoesOn old.from goes.phase x m.phase (going_of m)) (heard_words goes.phase old.regions words (going_of old)) goes.goes in
+      let all : before + 0 ≡ before = omega arith in
+      record {
+        fit = goes_keep IsFit fit_still goes.phase k m.phase (going_of m) on was.fit;
+        hears = subst (λ x. IsHearing sized es el x m) all (goes_few sized es el goes.phase before old m 0 k m.finalizers.state next goes.was (omega arith) on (few_listed goes.phase k m.phase (going_of m) on was.fit) goes.tells was.hears);
+      }
+  heard begun m n h (Meanwhile {m = old} worked hears) =
+      let was = heard begun old n h hears in
+      record { fit = fit_worked old m worked was.fit; hears = worked_few sized es el n old m worked was.hears }
+  heard begun m n h (Told {m = old} key tells hears) =
+      let was = heard begun old n h hears in
+      record { fit = subst (λ (k : Machine). IsFit k.finalizers.state) (sym tells.same) was.fit; hears = told_few sized es el n key old m tells was.hears }
 
 pub passes_end : PassesEnd
 passes_end from old begun m n is hears =
@@ -688,20 +872,11 @@ passes_end from old begun m n is hears =
     let kinds = both_kinds t.cleanups in
     let sc = kinds.0 in
     let l = kinds.1 in
-    let fit : IsFit r s g es el sc l t = record { registered = omega arith; short = omega arith; long = omega arith; short_keys = omega arith; long_keys = omega arith; attached = (kinds.2, kinds.3) } in
-    let listed : AreEphemerons t.ephemerons begun.walk.left = subst (λ (u : State). AreEphemerons u.ephemerons begun.walk.left) is.finalizers is.begins.lists in
-    let few = rows_begin r s g es el sc l from [] t fit begun.walk.left listed in
-    let first : to_come r s g es el sc l (Some (Keys First)) 0 (length begun.walk.left) 0 (size_of none_off) ≤ all_to_come r s g es el sc l = omega (arith, few) in
-    let start : IsHearing r s g es el sc l 0 begun = record {
-      within = subst (IsFit r s g es el sc l) (sym is.finalizers) (record { registered = omega arith; short = omega arith; long = omega arith; short_keys = omega arith; long_keys = omega arith; attached = (kinds.2, kinds.3) });
-      few = subst (λ o. 0 + to_come r s g es el sc l o (length begun.walk.kept) (length begun.walk.left) (length begun.walk.aside) (size_of begun.walk.off) ≤ all_to_come r s g es el sc l) (sym is.phase)
-          (none_before (to_come r s g es el sc l (Some (Keys First)) (length begun.walk.kept) (length begun.walk.left) (length begun.walk.aside) (size_of begun.walk.off)) (all_to_come r s g es el sc l)
-          (subst (λ (k : Going). to_come_in r s g es el sc l (Some (Keys First)) k ≤ all_to_come r s g es el sc l)
-          (λ i. record { finalizers = t; kept = sym is.begins.none i; left = begun.walk.left; aside = sym is.begins.aside i; off = sym is.begins.off i; told = begun.told }) first));
-      asked = λ p at. let none = is.asked in omega (arith, none);
-      some = λ moment at. absurd (not_values moment (sym is.phase ∙ at));
+    let start : IsOn r s g es el sc l 0 begun = record {
+      fit = subst (IsFit r s g es el sc l) (sym is.finalizers) (record { registered = omega arith; short = omega arith; long = omega arith; short_keys = omega arith; long_keys = omega arith; attached = (kinds.2, kinds.3) });
+      hears = begins_few (sized r s g es el sc l) es el from old begun is (omega arith) (omega arith);
     } in
-    let end = (heard r s g es el sc l begun m n start hears).few in
+    let end = (heard r s g es el sc l begun m n start hears).hears.few in
     let product = most_is (es + el) in
     let count = kinds.4 in
     omega (arith, end, product, count)

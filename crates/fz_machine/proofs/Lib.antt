@@ -50,6 +50,7 @@ pub mod May
 pub mod Ran
 pub mod Fewer
 pub mod Spent
+pub mod Unasked
 pub mod Called
 pub mod Rowed
 mod Askable

@@ -116,10 +116,10 @@ module _ (E : Type 0) (word_of : ℕ → Option ℕ) (value : Map Object → ℕ
   no_answers phase (answer ∷ answers) [] h new none honest = absurd honest
   no_answers phase (answer ∷ answers) (item ∷ left) h new none honest = absurd (omega (arith, ap length none))
 
-  abbrev here_apart : Machine → Going
+  abbrev pub here_apart : Machine → Going
   here_apart m = going_apart b.taken b.held (machines.going_of m)
 
-  heard_on : (m : Machine) (heard : Heard) (phase : Phase) (h new : Graph) → IsOn phase (here_apart m) h → IsTrueOf E word_of value m heard phase h new → IsOn phase (heard_by phase m.regions heard (here_apart m)) new
+  pub heard_on : (m : Machine) (heard : Heard) (phase : Phase) (h new : Graph) → IsOn phase (here_apart m) h → IsTrueOf E word_of value m heard phase h new → IsOn phase (heard_by phase m.regions heard (here_apart m)) new
   heard_on m (Answers answers) (Regions sweep) h new p honest =
       subst (λ (k : Going). IsOn (Regions sweep) k new) (sym (steps_none (Regions sweep) answers (here_apart m) p.1)) (subst (λ (x : Graph). IsOn (Regions sweep) (here_apart m) x) (sym (no_answers (Regions sweep) answers m.walk.left h new p.1 honest)) p)
   heard_on m (Words words) (Regions sweep) h new p honest =
@@ -165,7 +165,7 @@ module _ (E : Type 0) (word_of : ℕ → Option ℕ) (value : Map Object → ℕ
           (parted_on E word_of value b.ephemerons begin.values phase s off item h h q (may_ever E word_of value b before begin phase s kept left aside off item h p) false honest)
       by (Some ask) some rest = (p, q)
 
-  skip_on : (phase : Phase) (g : Going) (h : Graph) → IsOn phase g h → IsOn phase (skip phase g) h
+  pub skip_on : (phase : Phase) (g : Going) (h : Graph) → IsOn phase g h → IsOn phase (skip phase g) h
   skip_on (Regions sweep) g h p = subst (λ (k : Going). IsOn (Regions sweep) k h) (sym (skip_none (Regions sweep) g p.1)) p
   skip_on phase g h p = let on = skips_keep phase g.left g.finalizers g.kept g.aside g.off g.told h p.1 p.2 in (skipped_told phase g.left g ∙ p.0, on.0, on.1)
 
@@ -219,7 +219,7 @@ module _ (E : Type 0) (word_of : ℕ → Option ℕ) (value : Map Object → ℕ
       settled_all E word_of value b before begin moment g.finalizers g.kept g.aside g.off h
       (subst (λ (o : Phase). IsIn E word_of value b before o g.finalizers g.kept [] g.aside g.off h) at (subst (λ (xs : List Item). IsIn E word_of value b before phase g.finalizers g.kept xs g.aside g.off h) none p))
 
-  turn_on : (phase next : Phase) (g k : Going) (h : Graph) → g.left ≡ [] → next_phase phase (looks_again g.off) ≡ Some next → IsOn phase g h → Begins begin.from next g k → IsOn next k h
+  pub turn_on : (phase next : Phase) (g k : Going) (h : Graph) → g.left ≡ [] → next_phase phase (looks_again g.off) ≡ Some next → IsOn phase g h → Begins begin.from next g k → IsOn next k h
   turn_on (Regions sweep) next g k h none turns p begins =
       let is : swept sweep ≡ next = same_Some (swept sweep) next turns in
       let from_here : Begins begin.from (swept sweep) g k = subst (λ (o : Phase). Begins begin.from o g k) (sym is) begins in
@@ -249,17 +249,17 @@ module _ (E : Type 0) (word_of : ℕ → Option ℕ) (value : Map Object → ℕ
   -- ---- a run
 
   -- with what was taken and held at the begin
-  abbrev IsAt : Machine → Graph → Type 0
+  abbrev pub IsAt : Machine → Graph → Type 0
   IsAt m h = IsWhere m.phase (here_apart m) h
 
   -- it looks at the same registrations and cleanups throughout
-  from_stays : (begun m : Machine) (h : Graph) → Runs E word_of value begun before m h → m.from ≡ begun.from
+  pub from_stays : (begun m : Machine) (h : Graph) → Runs E word_of value begun before m h → m.from ≡ begun.from
   from_stays begun m h Begun = refl
   from_stays begun m h (Goes {m = old} {g = g} heard goes runs honest) = goes.from ∙ from_stays begun old g runs
   from_stays begun m h (Meanwhile {m = old} worked runs) = ap (λ (k : Machine). k.from) worked.keeps ∙ from_stays begun old h runs
   from_stays begun m h (Told {m = old} key tells runs) = ap (λ (k : Machine). k.from) tells.same ∙ from_stays begun old h runs
 
-  ran : (begun m : Machine) (h : Graph) → begun.from ≡ begin.from → IsAt begun before → Runs E word_of value begun before m h → IsAt m h
+  pub ran : (begun m : Machine) (h : Graph) → begun.from ≡ begin.from → IsAt begun before → Runs E word_of value begun before m h → IsAt m h
   ran begun m h same p Begun = p
   ran begun m h same p (Goes {m = old} {g = g} heard goes runs honest) =
       let was = subst (λ o. IsWhere o (here_apart old) g) goes.was (ran begun old g same p runs) in
@@ -286,13 +286,13 @@ module _ (E : Type 0) (word_of : ℕ → Option ℕ) (value : Map Object → ℕ
 -- ---- from the begin to the end
 
 module _ (E : Type 0) (word_of : ℕ → Option ℕ) (value : Map Object → ℕ → Option ℕ) (from : ℕ) (old begun new : Machine) (past : Past) (before after_it : Graph) (reached : IsReached old.finalizers.state past) (is : IsBegunFrom from old begun) (may : MayBegin word_of value old.finalizers.state before) (seen : AreOldMarked from old.finalizers.state before) (runs : Runs E word_of value begun before new after_it) where
-  abbrev b : State
+  abbrev pub b : State
   b = record old.finalizers.state { passes = next_pass old.finalizers.passes }
 
-  no_later : (number : ℕ) → number < begun.from → number < from
+  pub no_later : (number : ℕ) → number < begun.from → number < from
   no_later number lt = let same = is.from in omega (arith, lt, same)
 
-  abbrev has_begun : HasBegun word_of value b before
+  abbrev pub has_begun : HasBegun word_of value b before
   has_begun = record {
     may = record { registered = may.registered; short = may.short; long = may.long; short_keys = may.short_keys; long_keys = may.long_keys; zero = may.zero; closed = may.closed; births = may.births; starts = may.starts; apart = may.apart; values = may.values };
     flags = (promised old.finalizers.state past reached).flags;
@@ -321,10 +321,13 @@ module _ (E : Type 0) (word_of : ℕ → Option ℕ) (value : Map Object → ℕ
   abbrev there : Going
   there = going_apart b.taken b.held (machines.going_of new)
 
+  pub is_first : IsAt E word_of value b before has_begun begun before
+  is_first =
+      subst (λ (s : State). IsWhere E word_of value b before has_begun begun.phase (record (machines.going_of begun) { finalizers = s }) before) (sym as_b)
+      (subst (λ o. IsWhere E word_of value b before has_begun o (machines.going_of begun) before) (sym is.phase) (is.begins.told, starts, parted_starts))
+
   is_where : IsWhere E word_of value b before has_begun new.phase there after_it
-  is_where = ran E word_of value b before has_begun begun new after_it refl
-      (subst (λ (s : State). IsWhere E word_of value b before has_begun begun.phase (record (machines.going_of begun) { finalizers = s }) before) (sym as_b)
-      (subst (λ o. IsWhere E word_of value b before has_begun o (machines.going_of begun) before) (sym is.phase) (is.begins.told, starts, parted_starts))) runs
+  is_where = ran E word_of value b before has_begun begun new after_it refl is_first runs
 
   works_on : WorksAfter b.taken b.held new.finalizers.state
   works_on = works E word_of value b before has_begun begun new after_it (subst (λ (s : State). machines.Works s begun.finalizers.state) (sym as_b) machines.Begun) runs

@@ -1,9 +1,10 @@
 -- Runs of a pass over a graph, and their result.
 -- code: fz_machine/src/law.rt
-use Rattle.std.specs.Prelude.{◌≡◌, ℕ, Bool, List, [], ◌∷◌, zip, Option, None, Some, IsTrue}
+use Rattle.std.specs.Prelude.{◌≡◌, ◌≤◌, ◌+◌, ◌*◌, ◌&&◌, ℕ, Bool, not, if◌then◌else◌, List, [], ◌∷◌, length, zip, Option, None, Some, IsTrue}
+use Rattle.std.specs.FinMap.{len, retain_keys}
 use Rattle.fz_model.specs.State.{Map, Object}
 use Rattle.fz_pass.specs.Holds.{no_ephemerons}
-use Rattle.fz_pass.specs.Marks.{IsClosed}
+use Rattle.fz_pass.specs.Marks.{IsClosed, with_targets}
 use Rattle.fz_finalizers.specs.Passed.{PassesFor, PassesWhole}
 use Rattle.fz_finalizers.specs.Promises.{IsReached, Past}
 use Rattle.fz_finalizers.specs.States.{State}
@@ -11,9 +12,13 @@ use Rattle.fz_machine.specs.declared.item.Item.{Item}
 use Rattle.fz_machine.specs.declared.pass.Next.{Next}
 use Rattle.fz_machine.specs.declared.phase.Phase.{Phase}
 use Rattle.fz_machine.specs.declared.phase.Phase.TheVariants.{Regions}
+use Rattle.fz_machine.specs.declared.phase.Sweep.{Sweep}
+use Rattle.fz_machine.specs.declared.phase.Sweep.TheVariants as sweeps
+use Rattle.fz_machine.specs.Going.{ephemerons_in}
 use Rattle.fz_machine.specs.Graph.{AreHonestWords, AreOldMarked, Graph, IsHonest, MayBegin, MayBeAsked}
+use Rattle.fz_machine.specs.Heard.{most_rows}
 use Rattle.fz_machine.specs.Regions.{IsOfSweep}
-use Rattle.fz_machine.specs.Machines.{Machine, Heard, Answers, Words, IsBegun, IsBegunFrom, GoesTo, IsTold, IsWorked, Works}
+use Rattle.fz_machine.specs.Machines.{Machine, Heard, Answers, Words, IsBegun, IsBegunFrom, GoesTo, IsTold, IsWorked, Works, is_noted}
 use Rattle.fz_machine.specs.Phases.{ask_of, subject, sweep_ask}
 
 -- true answers about the first items, one after another, while the graph changes; also about an item that isn't asked about since it is known
@@ -98,3 +103,34 @@ abbrev pub AsksYoungRightly : Type 0 → Type 0
 AsksYoungRightly Exact = (from : ℕ) (place : ℕ → Option ℕ) (value : Map Object → ℕ → Option ℕ) (old begun new : Machine) (past : Past) (before after : Graph) (phase : Phase)
     → IsReached old.finalizers.state past → IsBegunFrom from old begun → MayBegin place value old.finalizers.state before → AreOldMarked from old.finalizers.state before → Runs Exact place value begun before new after → new.phase ≡ Some phase
     → AreAskable Exact place value phase new.walk.left after
+
+-- ---- how many answers a run takes
+
+abbrev pub answers_in : Heard → ℕ
+answers_in (Answers answers) = length answers
+answers_in (Words words) = 0
+
+-- the number of answers about items that a run has processed
+abbrev pub answered : {Exact : Type 0} {place : ℕ → Option ℕ} {value : Map Object → ℕ → Option ℕ} {begun : Machine} {before : Graph} {m : Machine} {g : Graph} → Runs Exact place value begun before m g → ℕ
+answered Begun = 0
+answered (Goes heard goes runs honest) = answered runs + answers_in heard
+answered (Meanwhile worked runs) = answered runs
+answered (Told key tells runs) = answered runs
+
+-- at most this many are about links of a kind: if all their targets are noted, one about each link whose target isn't marked, and else two about each link; and if
+-- not all their words are noted, one more about each
+abbrev pub most_about_links : Bool → Bool → (ℕ → Bool) → Map ℕ → ℕ
+most_about_links targets words marked links = (if targets then len (with_targets links (λ a. not (marked a))) else 2 * len links) + (if words then 0 else len links)
+
+-- at most this many are processed by a pass that begins with these marks, given for which sweeps all is noted
+abbrev pub most_unmarked : (Sweep → Bool) → (ℕ → Bool) → State → ℕ
+most_unmarked noted marked s =
+    (if noted sweeps.Objects then 5 * len (retain_keys s.registrations (λ a. not (marked a))) else 6 * len s.registrations)
+    + most_about_links (noted sweeps.ShortTargets) (noted sweeps.ShortHolders) marked s.short + most_about_links (noted sweeps.LongTargets) (noted sweeps.LongHolders) marked s.long
+    + (if noted sweeps.ShortCleanups && noted sweeps.LongCleanups then 0 else len s.cleanups) + most_rows (ephemerons_in s)
+
+-- a run whose answers and words are true of a graph takes no more answers, wherever it is
+abbrev pub CostsUnmarked : Type 0 → Type 0
+CostsUnmarked Exact = (from : ℕ) (place : ℕ → Option ℕ) (value : Map Object → ℕ → Option ℕ) (old begun new : Machine) (past : Past) (before after : Graph)
+    → IsReached old.finalizers.state past → IsBegunFrom from old begun → MayBegin place value old.finalizers.state before → AreOldMarked from old.finalizers.state before → (run : Runs Exact place value begun before new after)
+    → answered run ≤ most_unmarked (λ sweep. is_noted sweep old) before.marked old.finalizers.state

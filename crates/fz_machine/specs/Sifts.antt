@@ -36,7 +36,7 @@ keeps_known Objects = true
 keeps_known LongTargets = true
 keeps_known phase = false
 
--- the answer with which a phase drops an item, and changes nothing else, if there is one
+-- the answer, if there is one, that makes a phase drop an item and change nothing else
 abbrev pub idle_answer : Phase → Option Bool
 idle_answer (Values moment) = Some false
 idle_answer ShortCleanups = Some true

@@ -144,7 +144,7 @@ fn keeps_all(phase: Phase) -> bool
     }
 }
 
-/// The answer with which a phase drops an item, and changes nothing else, if there is one.
+/// The answer, if there is one, that makes a phase drop an item and change nothing else.
 fn idle_answer(phase: Phase) -> Option<bool>
     ensures { result ≡ idle_answer phase }
 {

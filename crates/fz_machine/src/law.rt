@@ -1,7 +1,7 @@
 //! The result of a run of questions and answers.
 
 ghost use Rattle.fz_machine.specs.Heard.{PassesAreCalls, PassesEnd, RegionQuestionsEnd};
-ghost use Rattle.fz_machine.specs.Runs.{AsksRightly, AsksYoungRightly, RunsPass, RunsPlainPass, RunsYoungPass, RunsYoungPlainPass};
+ghost use Rattle.fz_machine.specs.Runs.{AsksRightly, AsksYoungRightly, CostsUnmarked, RunsPass, RunsPlainPass, RunsYoungPass, RunsYoungPlainPass};
 
 /// A run whose answers are true of a graph carries out the model's pass, as `Finalizers::pass_with_ephemerons` does. Entries that are taken and finished
 /// between its questions might as well be taken and finished after the pass. What the host tells by `Machine::key_marked` need not be true.
@@ -41,6 +41,15 @@ pub fn passes_end()
 /// above.
 pub fn region_questions_end()
     ensures { RegionQuestionsEnd }
+{}
+
+/// What is marked when a pass begins costs the host of a machine with regions no answer about an item, if its words and answers are true of a graph and all of
+/// its kind is noted. Such a pass processes at most five answers for each registration whose object isn't marked, one for each link whose target isn't marked,
+/// and none for cleanups. Ephemerons aren't noted: `passes_end` has the number of answers for them, and for a kind of which not all is noted. The bound holds
+/// for each part of a run, too, from its begin on.
+pub fn marked_items_cost_no_answers()
+    ensures unmarked { CostsUnmarked (Unit {0}) }
+    ensures unmarked_of_more { CostsUnmarked ⊥ }
 {}
 
 /// Whatever the host answers and tells, a pass consists of calls of the finalizers that take and finish nothing, even if it is abandoned. So what

@@ -25,8 +25,8 @@ mod walk;
 
 pub use item::Item;
 pub use law::{
-    passes_are_calls, passes_end, questions_may_be_asked, region_questions_end, runs_make_the_pass,
-    runs_make_the_plain_pass,
+    marked_items_cost_no_answers, passes_are_calls, passes_end, questions_may_be_asked,
+    region_questions_end, runs_make_the_pass, runs_make_the_plain_pass, young_passes_are_passes,
 };
 pub use machine::{By, Machine};
 pub use pass::{Next, Step};

@@ -10,6 +10,7 @@ use crate::regions::Regions;
 use crate::tables::{asks, tables};
 use crate::walk::Walk;
 use fz_finalizers::{Finalizers, Refused};
+use fz_table::AddressHasher;
 use std::alloc::Global;
 use std::marker::Model;
 
@@ -86,6 +87,15 @@ impl Model for Machine {
     ghost invariant = { λ m. IsInOrder m.finalizers.state m.walk m.tables.items m.phase × AsksNone m.phase m.asked × Lacks m.phase m.tables.items };
 }
 
+/// The hash of the addresses of objects, or of words. A host with marks by regions has addresses in memory, or other numbers that are far apart.
+fn hasher_for(by_regions: bool) -> AddressHasher {
+    if by_regions {
+        AddressHasher::of_words()
+    } else {
+        AddressHasher::new()
+    }
+}
+
 impl Machine {
     /// Finalizers without registrations, and without an open pass. Fails with `NoMemory` if an allocation fails.
     pub fn new(alloc: Global) -> Result<Machine, Refused>
@@ -116,7 +126,11 @@ impl Machine {
         ensures noted { IfOk result (λ m. (m.by ≡ by) × (m.noted ≡ noted_by by)) }
         ensures tabled { IfOk result (λ m. m.tabled ≡ none_tabled) }
     {
-        let finalizers = Finalizers::new(alloc)?;
+        let finalizers = Finalizers::with_hashers(
+            alloc,
+            hasher_for(by.marks),
+            hasher_for(by.live),
+        )?;
         let tables = tables(alloc, by)?;
         Ok(Machine {
             finalizers,

@@ -118,7 +118,7 @@ impl Regions {
         ensures { result ≡ record { order = []; told = []; left = []; asked = 0; complete = complete } }
     {
         Regions {
-            noted: IndexMap::with_hasher(alloc, AddressHasher::new()),
+            noted: IndexMap::with_hasher(alloc, AddressHasher::of_words()),
             last: [0; 2],
             complete,
             end: 0,

@@ -18,7 +18,7 @@ use crate::host::Values;
 use crate::settling::{list_ephemerons, settle_waiting};
 use fz_links::Links;
 use fz_model::{Addr, LinkAnswer, LinkKind, MoveAnswer, Refusal};
-use fz_table::Pairs;
+use fz_table::{AddressHasher, Pairs};
 use std::alloc::Global;
 use std::marker::Model;
 
@@ -64,9 +64,16 @@ impl Ephemerons {
     pub fn new(alloc: Global) -> Ephemerons
         ensures { result.ephemerons ≡ no_ephemerons }
     {
+        Ephemerons::with_hasher(alloc, AddressHasher::new())
+    }
+
+    /// No ephemerons. Their words are hashed by this hasher.
+    pub fn with_hasher(alloc: Global, hasher: AddressHasher) -> Ephemerons
+        ensures { result.ephemerons ≡ no_ephemerons }
+    {
         Ephemerons {
-            short: Links::new(alloc),
-            long: Links::new(alloc),
+            short: Links::with_hasher(alloc, hasher),
+            long: Links::with_hasher(alloc, hasher),
             waiting: Vec::new(alloc),
             rest: Vec::new(alloc),
         }

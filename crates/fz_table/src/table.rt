@@ -64,8 +64,16 @@ impl Table {
         ensures registered { result.registered ≡ record { registrations = empty; next_number = 0 } }
         ensures late { result.late ≡ sets.empty }
     {
+        Table::with_hasher(alloc, AddressHasher::new())
+    }
+
+    /// An empty table that hashes the addresses of objects by this hasher.
+    pub fn with_hasher(alloc: Global, hasher: AddressHasher) -> Table
+        ensures registered { result.registered ≡ record { registrations = empty; next_number = 0 } }
+        ensures late { result.late ≡ sets.empty }
+    {
         Table {
-            entries: IndexMap::with_hasher(alloc, AddressHasher::new()),
+            entries: IndexMap::with_hasher(alloc, hasher),
             next_number: 0,
             flags: 0,
         }

@@ -10,7 +10,7 @@ invariant_of-result c =
     let s = c.in_ok-finalizers.finalizers.state in
     let opened = c.in_ok-finalizers.ensures.opened in (
       record {
-        room = rooms_of false _ s c.new-2.result opened (rooms_opened c.new-2.result);
+        room = rooms_of false _ s c.new.result opened (rooms_opened c.new.result);
         room_off = tt;
         tables = opened_tables s c.args.by c.in_ok-tables.tables.items opened c.in_ok-tables.ensures;
       },

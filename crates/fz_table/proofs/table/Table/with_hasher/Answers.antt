@@ -5,7 +5,7 @@ use Rattle.fz_model.specs.declared.answers.Registration.{Registration}
 use Rattle.fz_table.specs.declared.limits.TheConstants.{MOST_ENTRIES}
 use Rattle.fz_table.specs.Tabled.{flagged, plain}
 use Rattle.fz_table.proofs.Flagged.{no_flags}
-use Rattle.fz_table.proofs.table.Table.new.Goals as goal
+use Rattle.fz_table.proofs.table.Table.with_hasher.Goals as goal
 
 pub invariant_of-result : goal.invariant_of-result
 invariant_of-result c = record {

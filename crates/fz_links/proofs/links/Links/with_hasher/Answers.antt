@@ -1,7 +1,7 @@
 use Rattle.std.proofs.Common.{ℕ, ◌≤◌, nat_cmp, sym, subst, arith}
 use Rattle.std.specs.FinMap.{len, from_entries, len-empty}
 use Rattle.fz_table.specs.declared.limits.TheConstants.{MOST_ENTRIES}
-use Rattle.fz_links.proofs.links.Links.new.Goals as goal
+use Rattle.fz_links.proofs.links.Links.with_hasher.Goals as goal
 
 pub invariant_of-result : goal.invariant_of-result
 invariant_of-result c =
