@@ -59,8 +59,8 @@ typedef enum derrimas_link_answer {
 /* ---- memory */
 
 /* An allocator of the host's: functions like malloc, realloc and free, each with `data` before its arguments. They are
- * called by the thread whose call takes or frees memory, within that call. They make no call on the same handle, and
- * return. `reallocate` and `release` get what `allocate` or `reallocate` returned for this handle, or NULL. */
+ * called by the thread whose call takes or frees memory, within that call. They must return, and must not make a call on the
+ * same handle. `reallocate` and `release` get what `allocate` or `reallocate` returned for this handle, or NULL. */
 typedef struct derrimas_allocator {
     void *(*allocate)(void *data, size_t size);
     void *(*reallocate)(void *data, void *memory, size_t size);

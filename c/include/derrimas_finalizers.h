@@ -20,11 +20,11 @@
  * What the host owes, since nothing checks C:
  * - A pointer points to a value of its type, which no other thread uses meanwhile. It may be NULL only where the call's
  *   comment says so; DERRIMAS_NONNULL marks the others.
- * - A derrimas_finalizers starts as {0}, changes by these calls alone, and isn't copied.
+ * - A derrimas_finalizers starts as {0}, is changed only by these calls, and isn't copied.
  * - One thread at a time uses it, as behind one lock: in a collector, that of the allocator. Calls that take a const
- *   handle change nothing, and may be made by several threads at once, if no other call is made meanwhile.
- *   derrimas_finalizers_has_waiting alone may be called at any time.
- * - A signal handler calls derrimas_finalizers_has_waiting alone. A forked child has a copy of each handle: it may use one
+ *   handle change nothing, and may be made by several threads at once, if no other call is made meanwhile. Only
+ *   derrimas_finalizers_has_waiting may be called at any time.
+ * - A signal handler may call only derrimas_finalizers_has_waiting. A forked child has a copy of each handle: it may use one
  *   if no other thread was in a call on it at the fork, for example if the fork happens under the host's lock.
  * - Before the host frees, reuses or moves the memory of the word of a link or an ephemeron, it unlinks or moves the link,
  *   or ends or moves the ephemeron. A pass has the host write to the word of each one that it clears, even if no object has
@@ -73,7 +73,7 @@ typedef enum derrimas_finalizers_code {
     DERRIMAS_FINALIZERS_FULL = 3,         /* there are 2^32 registrations, cleanups, or links or ephemerons of this kind */
     DERRIMAS_FINALIZERS_NO_MEMORY = 4,    /* the handle's allocator returned NULL */
     DERRIMAS_FINALIZERS_NOT_HELD = 5,     /* no entry that is held is the same in all fields */
-    DERRIMAS_FINALIZERS_PASS_OPEN = 6,    /* a pass is open: .._begin came, and its last question didn't */
+    DERRIMAS_FINALIZERS_PASS_OPEN = 6,    /* a pass is open: .._next hasn't returned EMPTY since .._begin */
     DERRIMAS_FINALIZERS_NO_PASS = 7,      /* no pass is open */
     DERRIMAS_FINALIZERS_NOT_OPEN = 8,     /* the handle isn't open: it never was, or it is destroyed */
     DERRIMAS_FINALIZERS_IS_OPEN = 9,      /* the handle is open already */
@@ -131,7 +131,8 @@ typedef struct derrimas_finalizers_options {
 typedef struct derrimas_finalizers_entry derrimas_finalizers_entry;
 
 /* The functions that derrimas_finalizers_trace sets. Each may be NULL. It is called at the end of the call in which the
- * event happens, by the same thread, with `data` first. It makes no call that changes the handle, and returns. */
+ * event happens, by the same thread, with `data` first. It must return, and must not make a call that changes the handle.
+ * `queued` is called once for a pass that has queued entries, when the pass ends or is abandoned. */
 typedef struct derrimas_trace {
     void (*queued)(void *data, uint64_t pass, uint64_t count); /* a pass has queued entries; or as pass 0 .._queue_all or
                                                                 * .._queue_cleanups has */
@@ -194,7 +195,7 @@ typedef struct derrimas_finalizers_cleanup_at {
 } derrimas_finalizers_cleanup_at;
 
 /* How many registrations, links, ephemerons, cleanups, entries that wait and entries that are held there are; how many
- * entries and passes there ever were. */
+ * entries and passes there ever were. A pass counts from .._begin on, even if it is abandoned. */
 typedef struct derrimas_finalizers_counts {
     uint64_t registrations, short_links, long_links, short_ephemerons, long_ephemerons, cleanups, waiting, held, queued, passes;
 } derrimas_finalizers_counts;
@@ -209,16 +210,18 @@ typedef enum derrimas_ask {
     DERRIMAS_ASK_IS_MARKED = 1,        /* is the object marked? */
     DERRIMAS_ASK_MARK_CHILDREN = 2,    /* mark the objects to which its words point, and all that those reach */
     DERRIMAS_ASK_MARK_OTHERS = 3,      /* the same, but without the words that point to the object itself */
-    DERRIMAS_ASK_MARK = 4,             /* mark the object and all that it reaches: it has an entry from now on */
-    DERRIMAS_ASK_MARK_ALONE = 5,       /* mark the object; all else that it reaches is marked already: it has an entry */
+    DERRIMAS_ASK_MARK = 4,             /* mark the object and all that it reaches; the next call of .._next queues its entry */
+    DERRIMAS_ASK_MARK_ALONE = 5,       /* mark the object; all else that it reaches is marked already; its entry is queued
+                                        * likewise */
     DERRIMAS_ASK_CLEAR = 6,            /* write zero to the word; its link or ephemeron is removed */
-    DERRIMAS_ASK_HOLDER_IS_MARKED = 7, /* is the object that has the word marked, or has no object the word? at the end of
-                                        * a pass, if not, its link or ephemeron is removed, and the word stays as it is */
+    DERRIMAS_ASK_HOLDER_IS_MARKED = 7, /* is the object that contains the word marked, or does no object contain it? if the
+                                        * answer is no at the end of a pass, its link or ephemeron is removed, and the word
+                                        * stays as it is */
     DERRIMAS_ASK_MARKS = 8,            /* which objects are marked that begin in the region? only with the option `marks` */
     DERRIMAS_ASK_LIVE = 9,             /* which places of the region lie in marked objects, or in none? only with the option
                                         * `live` */
     DERRIMAS_ASK_MARK_VALUE = 10       /* mark the object to which the ephemeron's word points, if any, and all that it
-                                        * reaches: may something have been marked that wasn't? only if there are ephemerons */
+                                        * reaches; may this have marked anything new? only if there are ephemerons */
 } derrimas_ask;
 
 /* A question about `count` objects, words or regions, 1 to DERRIMAS_FINALIZERS_BATCH, to be answered or carried out one
@@ -252,12 +255,14 @@ DERRIMAS_CHECKED derrimas_finalizers_code derrimas_finalizers_open(derrimas_fina
                                                                    const derrimas_finalizers_options *options)
     DERRIMAS_NONNULL(1);
 
-/* Frees all that the handle has, by its allocator, and leaves it as {0}. Does nothing if it isn't open. */
+/* Frees all that the handle has, by its allocator, and leaves it as {0}. A pass may be open. Does nothing if the handle isn't
+ * open. */
 void derrimas_finalizers_destroy(derrimas_finalizers *finalizers) DERRIMAS_NONNULL(1);
 
 /* Makes room for the given numbers of further registrations and links. Until that room is used up, or .._shrink is called,
  * .._register and .._link take no memory, except for new regions. .._ephemeron, .._add_cleanup, .._why and .._stuck take
- * memory nevertheless. It takes memory itself, and time proportional to the room.
+ * memory nevertheless. It takes memory itself, and time proportional to the room. For 2^32 or more of one sort it returns
+ * NO_MEMORY without asking the allocator.
  * Refused: NOT_OPEN, PASS_OPEN, NO_MEMORY. */
 DERRIMAS_CHECKED derrimas_finalizers_code derrimas_finalizers_reserve(derrimas_finalizers *finalizers,
                                                                       uint64_t registrations, uint64_t shorts, uint64_t longs)
@@ -277,7 +282,8 @@ derrimas_finalizers_code derrimas_finalizers_shrink(derrimas_finalizers *finaliz
  * the client data be a list that the procedure processes. `proc` and `cd` are any numbers, which the entry has too. Of the
  * registrations that one pass queues, those of kind UNREACHABLE come last; among these and among the others lower ranks
  * come first, and within a rank lower objects. *number, which may be NULL, is the number of the registration, which no
- * other and no cleanup has; *old, which may be NULL, what it replaced.
+ * other and no cleanup has: the first number is 0. *old, which may be NULL, is what it replaced. A registration that replaces
+ * another never fails with NO_MEMORY.
  * Refused: BAD_KIND, NOT_OPEN, PASS_OPEN, ZERO, EXHAUSTED, FULL, NO_MEMORY. */
 DERRIMAS_CHECKED derrimas_finalizers_code
 derrimas_finalizers_register(derrimas_finalizers *finalizers, uint64_t object, derrimas_finalizers_kind kind, uint64_t proc,
@@ -290,11 +296,12 @@ derrimas_finalizers_register(derrimas_finalizers *finalizers, uint64_t object, d
 derrimas_finalizers_code derrimas_finalizers_unregister(derrimas_finalizers *finalizers, uint64_t object,
                                                         derrimas_finalizers_old *old) DERRIMAS_NONNULL(1);
 
-/* Makes a link from the word to the target. A word may have one link of each kind. If the word has one of this kind, its
- * target is replaced. *answer, which may be NULL, is DUPLICATE then, and otherwise LINKED. A pass clears the word and
- * removes the link when the target is lost. The target of a SHORT link is lost if it is unmarked when the pass begins, once
- * the values of ephemerons have been marked; the target of a LONG link if in addition no finalizer retains it. If the object
- * that has the word is left unmarked, the pass removes the link and leaves the word as it is.
+/* Makes a link from the word to the target. The word itself is the host's: no call reads or writes it. A word may have one
+ * link of each kind. If the word has one of this kind, its target is replaced. *answer, which may be NULL, is DUPLICATE then,
+ * and otherwise LINKED. When the target is lost, a pass asks the host to clear the word, and removes the link. The target of
+ * a SHORT link is lost if it is unmarked when the pass begins, once the values of ephemerons have been marked; the target of
+ * a LONG link if in addition no finalizer retains it. If the object that has the word is left unmarked, the pass removes the
+ * link and leaves the word as it is.
  * Refused: BAD_KIND, NOT_OPEN, PASS_OPEN, ZERO, FULL, NO_MEMORY. */
 DERRIMAS_CHECKED derrimas_finalizers_code
 derrimas_finalizers_link(derrimas_finalizers *finalizers, derrimas_finalizers_link_kind kind, uint64_t word, uint64_t target,
@@ -305,10 +312,10 @@ derrimas_finalizers_link(derrimas_finalizers *finalizers, derrimas_finalizers_li
 derrimas_finalizers_code derrimas_finalizers_unlink(derrimas_finalizers *finalizers, derrimas_finalizers_link_kind kind,
                                                     uint64_t word, bool *was) DERRIMAS_NONNULL(1);
 
-/* Moves the link of this kind from the word to the word `to`. *answer, which may be NULL, is LINKED, also if both words are
- * the same; or NOT_FOUND or DUPLICATE, and then nothing changed. It takes no memory, except for a new region with the option
- * `live`. A single move may rebuild the table, in the memory that the table has, which takes time proportional to the links
- * of the kind.
+/* Moves the link of this kind from the word to the word `to`. The host copies what the word contains. *answer, which may be
+ * NULL, is LINKED, also if both words are the same; or NOT_FOUND, or DUPLICATE if `to` has a link of this kind, and then
+ * nothing changed. It takes no memory, except for a new region with the option `live`. A single move may rebuild the table, in
+ * the memory that the table has, which takes time proportional to the links of the kind.
  * Refused: BAD_KIND, NOT_OPEN, PASS_OPEN, ZERO (of `to`). */
 derrimas_finalizers_code derrimas_finalizers_move_link(derrimas_finalizers *finalizers, derrimas_finalizers_link_kind kind,
                                                        uint64_t word, uint64_t to, derrimas_finalizers_linked *answer)
@@ -345,9 +352,9 @@ derrimas_finalizers_code derrimas_finalizers_move_ephemeron(derrimas_finalizers 
                                                             derrimas_finalizers_linked *answer) DERRIMAS_NONNULL(1);
 
 /* Adds a cleanup to the object, which may have any number of them, registered or not. When the object is lost, an entry
- * without the object is queued: its obj is 0, and its reg is *number, which no other cleanup and no registration has.
- * `number` may be NULL. The object isn't retained, so it may be reclaimed after the same pass. `proc` and `cd` are any
- * numbers, which the entry has too.
+ * without the object is queued: its obj is 0, and its reg is *number, which no other cleanup and no registration has, and
+ * which may be 0. `number` may be NULL. The object isn't retained, so it may be reclaimed after the same pass. `proc` and `cd`
+ * are any numbers, which the entry has too.
  *
  * A SHORT cleanup is due in a pass that finds the object unmarked, when short links to it are cleared. A LONG one is due in
  * a pass that leaves the object unmarked, so when no finalizer retains it either. A pass queues the SHORT ones before
@@ -388,8 +395,8 @@ derrimas_finalizers_code derrimas_finalizers_begin(derrimas_finalizers *finalize
 derrimas_finalizers_code derrimas_finalizers_begin_from(derrimas_finalizers *finalizers, uint64_t from) DERRIMAS_NONNULL(1);
 
 /* Takes the answers to the question before (at first any), and puts the next question into *question. If the question before
- * was MARKS or LIVE, its answers are in question->marks. EMPTY: there is no further question, and the pass has ended; what
- * it did is in *passed, which may be NULL.
+ * was MARKS or LIVE, its answers are in question->marks. EMPTY isn't a refusal: there is no further question, and the pass
+ * has ended; what it did is in *passed, which may be NULL, and which other calls of .._next don't write.
  *
  * A pass takes time proportional to the registrations, the links and the cleanups, and sorts the unmarked objects and the
  * cleanups. A single call may take as much, when the pass goes on to another list. With the options `marks` and `live` a
@@ -417,8 +424,9 @@ derrimas_finalizers_code derrimas_finalizers_next(derrimas_finalizers *finalizer
 derrimas_finalizers_code derrimas_finalizers_key_marked(derrimas_finalizers *finalizers, uint64_t key) DERRIMAS_NONNULL(1);
 
 /* Ends the open pass before its last question. What it has queued stays queued. A link or an ephemeron whose CLEAR wasn't
- * answered stays one, an object that wasn't queued stays registered, and a cleanup that wasn't queued stays. The host
- * reclaims nothing before its next pass has ended: what that would have retained may be unmarked.
+ * answered stays one, an object that wasn't queued stays registered, and a cleanup that wasn't queued stays. What the rest of
+ * the pass would have retained may be unmarked. So the host reclaims nothing before its next pass has ended, and marks from
+ * all roots again before that pass.
  * Refused: NOT_OPEN, NO_PASS. */
 derrimas_finalizers_code derrimas_finalizers_abandon(derrimas_finalizers *finalizers) DERRIMAS_NONNULL(1);
 
@@ -456,15 +464,14 @@ derrimas_finalizers_code derrimas_finalizers_finish(derrimas_finalizers *finaliz
     DERRIMAS_NONNULL(1, 2);
 
 /* Whether entries wait: GC_should_invoke_finalizers. It may be called without the lock, and then it is a hint. What an
- * open pass queues counts from the end of the pass. */
+ * open pass queues counts once the pass has ended or is abandoned. */
 bool derrimas_finalizers_has_waiting(const derrimas_finalizers *finalizers) DERRIMAS_NONNULL(1);
 
 /* ---- what a handle has; these calls change nothing, and a pass may be open */
 
 /* The roots: before each pass a host marks them and what they reach. */
 typedef enum derrimas_finalizers_root {
-    DERRIMAS_FINALIZERS_HELD_OBJECTS = 0,   /* the objects of entries that wait or are held, which are roots themselves; the
-                                             * entry of a cleanup has none */
+    DERRIMAS_FINALIZERS_HELD_OBJECTS = 0,   /* the objects of entries that wait or are held; the entry of a cleanup has none */
     DERRIMAS_FINALIZERS_HELD_DATA = 1,      /* their client data */
     DERRIMAS_FINALIZERS_REGISTERED_DATA = 2 /* the client data of registrations and cleanups, if the host retains it */
 } derrimas_finalizers_root;
@@ -474,7 +481,7 @@ typedef enum derrimas_finalizers_root {
  * finished entry, or that of a cleanup, may have a place without a root. As long as only calls that take a const handle
  * come between, the parts are one walk, which has each root once. A call takes time proportional to the roots that it
  * copies and the places that it passes, wherever it starts. The buffer may be NULL if `room` is 0.
- * Refused: BAD_KIND, NOT_OPEN; EMPTY if no root is left, or `room` is 0. */
+ * Refused: BAD_KIND, NOT_OPEN; EMPTY if no root is left, or `room` is 0: *count stays as it was. */
 derrimas_finalizers_code derrimas_finalizers_roots(const derrimas_finalizers *finalizers, derrimas_finalizers_root sort,
                                                    uint64_t *from, uint64_t *buffer, size_t room, size_t *count)
     DERRIMAS_NONNULL(1, 3, 6);
@@ -549,10 +556,10 @@ derrimas_finalizers_code derrimas_finalizers_cleanups(const derrimas_finalizers 
 typedef enum derrimas_why_reason {
     DERRIMAS_WHY_UNREGISTERED = 0, /* it has no finalizer and no entry, and if it has cleanups, it is unreachable */
     DERRIMAS_WHY_QUEUED = 1,       /* its entry waits or is held */
-    DERRIMAS_WHY_FOUND = 2,        /* it is reachable, and has a finalizer, or cleanups and no entry: the path goes from
-                                    * the object to which the root points to it */
-    DERRIMAS_WHY_WAITS = 3,        /* it is unreachable and on no ring: the path goes from another such object with a
-                                    * finalizer, by a first step, to it, and that one comes first */
+    DERRIMAS_WHY_FOUND = 2,        /* it is reachable, and has a finalizer, or cleanups and no entry: the path begins with
+                                    * the object to which the root points, and ends with it */
+    DERRIMAS_WHY_WAITS = 3,        /* it is unreachable and on no ring: the path goes from another unreachable object with a
+                                    * finalizer, which may be on a ring, by a first step to it, and that one comes first */
     DERRIMAS_WHY_RING = 4,         /* it is unreachable: the path goes from it, by a first step, back to it, so no pass
                                     * queues it as long as the words and ephemerons on the path stay, with their keys */
     DERRIMAS_WHY_READY = 5         /* the next pass queues it, if nothing changes before */
@@ -578,15 +585,17 @@ typedef struct derrimas_why {
 } derrimas_why;
 
 /* How a host lists its heap, as it is when nothing is cleared. Nothing has to be marked. The functions are called with
- * `data` first; n counts from 0 on until they return false. They make no call that changes the handle, and return.
+ * `data` first; n counts from 0 on until they return false. They must return, and must not make a call that changes the
+ * handle. The places for their results are 0 before each call.
  * - child: the n-th word of an object that may point to another. *child is the object to which it points, or 0. *word is
  *   the word's number, by which .._link or .._ephemeron makes a link or an ephemeron of it, or 0 if it is never one's. The
  *   words of ephemerons are listed, too: the library knows which they are, and takes it that the host doesn't mark by them.
- *   Of an object that isn't scanned *child is 0 for each other word. An object with n words takes the n numbers from its own
- *   on, and at least one, and no two objects share one. No object takes 2^64 - 1.
+ *   In an object that the marker doesn't scan, *child is 0 for each word that is no ephemeron. An object with n words takes
+ *   the n numbers from its own on, and at least one, and no two objects share one. No object takes 2^64 - 1.
  * - root: *root is the object to which the n-th root of the host's points, or 0. The finalizers' own are known.
- * - is_object: whether client data is the number of an object. It may be NULL: then none is. An object that is client data
- *   is reachable by it, as for a host that marks what all three sorts of derrimas_finalizers_roots yield. */
+ * - is_object: whether client data is the number of an object. It may be NULL, which is the same as false. An object that is
+ *   client data is reachable by it, as for a host that marks what all three sorts of derrimas_finalizers_roots yield. Client
+ *   data that is a number of an object that is listed for another reason counts too, whatever is_object returns. */
 typedef struct derrimas_paths {
     bool (*child)(void *data, uint64_t object, uint64_t n, uint64_t *word, uint64_t *child);
     bool (*root)(void *data, uint64_t n, uint64_t *root);
@@ -594,7 +603,7 @@ typedef struct derrimas_paths {
 } derrimas_paths;
 
 /* Says in *why why an object isn't finalized. The buffer `path`, which has `room` places and may be NULL if `room` is 0,
- * gets the first objects of the path that is the evidence, as many as fit. The object may be any number; registered
+ * gets the first objects of the path that is the evidence, as many as fit. The object may be any number but 0; registered
  * objects, the targets of short links and the keys of short ephemerons are the host's objects. It changes nothing. By the
  * handle's allocator it takes memory for each word of the objects that roots, registered objects, short links and short
  * ephemerons reach, values included, and frees it again. It takes time proportional to these words, registrations and
@@ -645,9 +654,9 @@ const char *derrimas_finalizers_reason_name(derrimas_why_reason reason);
 /* ---- a host's procedures, and a pass that they drive */
 
 /* A host: its functions for the questions. `data` is what derrimas_finalizers_pass was given. With but_itself, mark_children
- * passes over words that point to the object itself. marks and live return the word of the region that begins at `first`;
- * each is NULL in a host that doesn't open with the option of its name. mark_value returns whether something may have been
- * marked that wasn't; it is NULL in a host without ephemerons.
+ * skips the words that point to the object itself. marks and live return the word of the region that begins at `first`;
+ * each may be NULL if the handle was opened without the option of its name. mark_value returns whether it may have marked
+ * anything new; it may be NULL if there are no ephemerons.
  *
  * What is promised of a pass holds if there are a graph and a set of marked objects such that:
  * - is_marked says whether the object is in the set, and so does each bit of marks, about the object that begins at its

@@ -177,7 +177,7 @@ size_t own_heap_collect(own_heap *heap)
     mark_roots_of_finalizers(heap, DERRIMAS_FINALIZERS_HELD_DATA);
     mark_roots_of_finalizers(heap, DERRIMAS_FINALIZERS_REGISTERED_DATA);
     mark_on(heap);
-    (void)derrimas_finalizers_pass(&heap->finalizers, &host, heap, NULL); /* can't fail: it is open, and no answer calls it */
+    (void)derrimas_finalizers_pass(&heap->finalizers, &host, heap, NULL); /* can't fail: the handle is open, and no pass is */
     return sweep(heap);
 }
 
