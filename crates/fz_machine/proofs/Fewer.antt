@@ -28,7 +28,7 @@ use Rattle.fz_machine.specs.declared.phase.Sweep.{Sweep}
 use Rattle.fz_machine.specs.declared.phase.Sweep.TheVariants as sweeps
 use Rattle.fz_machine.specs.Heard.{Begun, Goes, Hears, Learns, Meanwhile, PassesEnd, Told}
 use Rattle.fz_machine.specs.Items.{AreCleanups, AreEntriesOf, AreEphemerons, AreLinks, AreObjects, is_still, of_cleanup, of_link, of_stored, target_of, word_of}
-use Rattle.fz_machine.specs.Machines.{IsBegunFrom, IsTold, IsWorked, Machine, Tells, TellsIn, Words, going_of, heard_by}
+use Rattle.fz_machine.specs.Machines.{Answers, GoesTo, IsBegunFrom, IsTold, IsWorked, Machine, Tells, TellsIn, Words, going_of, heard_by}
 use Rattle.fz_machine.specs.Off.{PutOff, TellsOff, all_off, looked_at, looking, looks_again, none_off, put_off, stuck_with}
 use Rattle.fz_machine.specs.Phases.{Lists, after, aside_in, asks, behind, given, keeps, next_phase, off_in, swept}
 use Rattle.fz_machine.specs.Regions.{is_marked, is_unmarked}
@@ -36,6 +36,7 @@ use Rattle.fz_machine.specs.Steps.{Asks, Begins, Ends, Going, GoesOn, Sweeps, Tu
 use Rattle.fz_machine.proofs.Phasing.{kept_on}
 use Rattle.fz_machine.proofs.Due.{HasOf, both_kinds, fewer_of}
 use Rattle.fz_machine.proofs.Delayed.{all_with, tells_moves}
+use Rattle.fz_machine.proofs.Turned.{is_sweep, swept_no_sweep}
 use Rattle.fz_machine.proofs.Throughout.{goes_keep, heard_answers, heard_words, skip_keeps, steps_keep}
 use Rattle.fz_machine.proofs.Within.{IsWithin, still}
 use Rattle.fz_machine.proofs.Working.{work_apart}
@@ -303,19 +304,6 @@ off_swept sweeps.LongTargets off = refl
 off_swept sweeps.ShortHolders off = refl
 off_swept sweeps.LongHolders off = refl
 off_swept sweeps.LongCleanups off = refl
-
-abbrev is_sweep : Phase → Bool
-is_sweep (Regions sweep) = true
-is_sweep phase = false
-
-no_sweep : (sweep : Sweep) → is_sweep (swept sweep) ≡ false
-no_sweep sweeps.ShortCleanups = refl
-no_sweep sweeps.ShortTargets = refl
-no_sweep sweeps.Objects = refl
-no_sweep sweeps.LongTargets = refl
-no_sweep sweeps.ShortHolders = refl
-no_sweep sweeps.LongHolders = refl
-no_sweep sweeps.LongCleanups = refl
 
 -- ---- what phases list
 
@@ -659,7 +647,7 @@ module _ (budget : Sweep → ℕ) (es el : ℕ) where
       behind starts (none, few) follows =
           let q : Going = skip (swept sweep) n in
           let off : q.off ≡ p.off = skipped_off sweep n.left n ∙ starts.off ∙ off_swept sweep p.off in
-          let left = subst (λ (xs : List Item). all ≤ to_come (Some (swept sweep)) (length q.kept) (length xs) (length q.aside) (size_of q.off)) none (follows (no_sweep sweep)) in
+          let left = subst (λ (xs : List Item). all ≤ to_come (Some (swept sweep)) (length q.kept) (length xs) (length q.aside) (size_of q.off)) none (follows (swept_no_sweep sweep)) in
           let past = past_sweep sweep (length q.kept) (length p.kept) (length q.aside) (length p.aside) (size_of q.off) few in
           subst (λ (x : PutOff). all ≤ to_come (Some (Regions sweep)) (length p.kept) 0 (length p.aside) (size_of x)) off
           (no_more all (to_come (Some (swept sweep)) (length q.kept) 0 (length q.aside) (size_of q.off)) (to_come (Some (Regions sweep)) (length p.kept) 0 (length p.aside) (size_of q.off)) left past)
@@ -684,7 +672,7 @@ module _ (budget : Sweep → ℕ) (es el : ℕ) where
 
   -- ---- a run
 
-  abbrev to_come_at : Machine → ℕ
+  abbrev pub to_come_at : Machine → ℕ
   to_come_at m = to_come m.phase (length m.walk.kept) (length m.walk.left) (length m.walk.aside) (size_of m.walk.off)
 
   abbrev pub all_to_come : ℕ
@@ -695,7 +683,7 @@ module _ (budget : Sweep → ℕ) (es el : ℕ) where
     pub asked : (p : Phase) → m.phase ≡ Some p → m.asked ≤ length m.walk.left
     pub some : (moment : Moment) → m.phase ≡ Some (Values moment) → 0 < length m.walk.left
 
-  asked_for : (m : Machine) (next : Next) → Tells m next → (p : Phase) → m.phase ≡ Some p → m.asked ≤ length m.walk.left
+  pub asked_for : (m : Machine) (next : Next) → Tells m next → (p : Phase) → m.phase ≡ Some p → m.asked ≤ length m.walk.left
   asked_for m (told.Asks question) (phase, was, inl items) p at =
       let within = items.question.within in
       let count = items.asked in
@@ -717,16 +705,25 @@ module _ (budget : Sweep → ℕ) (es el : ℕ) where
   told_fewer key phase kept left aside was now tells some = let same = ap (λ (off : PutOff). to_come phase kept left aside (size_of off)) tells in omega (arith, same)
 
   -- an answer is about one item more, and words are about none
-  pub goes_few : {from : ℕ} (phase : Phase) (before : ℕ) (old m : Machine) (n : ℕ) (k : Going) (t : State) (next : Next) → old.phase ≡ Some phase → n + to_come_in (Some phase) k ≤ to_come_in (Some phase) (going_of old)
-      → (goes : GoesOn from phase k m.phase (record (going_of m) { finalizers = t })) → AreFewListed phase k m.phase (record (going_of m) { finalizers = t }) goes → Tells m next → IsHearing before old → IsHearing (before + n) m
-  goes_few phase before old m n k t next at few goes listed tells was =
+  pub goes_less : {from : ℕ} (phase : Phase) (old m : Machine) (n : ℕ) (k : Going) (t : State) → old.phase ≡ Some phase → n + to_come_in (Some phase) k ≤ to_come_in (Some phase) (going_of old)
+      → (goes : GoesOn from phase k m.phase (record (going_of m) { finalizers = t })) → AreFewListed phase k m.phase (record (going_of m) { finalizers = t }) goes → n + to_come_at m ≤ to_come_at old
+  goes_less phase old m n k t at few goes listed =
       let there = (goes_on_fewer phase k m.phase (record (going_of m) { finalizers = t }) goes listed).0 in
-      let so_far = subst (λ o. before + to_come o (length old.walk.kept) (length old.walk.left) (length old.walk.aside) (size_of old.walk.off) ≤ all_to_come) at was.few in
+      subst (λ o. n + to_come_at m ≤ to_come o (length old.walk.kept) (length old.walk.left) (length old.walk.aside) (size_of old.walk.off)) (sym at) (omega (arith, few, there))
+
+  pub hears_on : {from : ℕ} (phase : Phase) (before n : ℕ) (old m : Machine) (k : Going) (t : State) (next : Next) → GoesOn from phase k m.phase (record (going_of m) { finalizers = t }) → n + to_come_at m ≤ to_come_at old → Tells m next → IsHearing before old
+      → IsHearing (before + n) m
+  hears_on phase before n old m k t next goes less tells was =
+      let so_far = was.few in
       record {
-        few = omega (arith, so_far, few, there);
+        few = omega (arith, so_far, less);
         asked = asked_for m next tells;
         some = λ moment here. stops phase k m.phase (record (going_of m) { finalizers = t }) goes moment here;
       }
+
+  pub goes_few : {from : ℕ} (phase : Phase) (before : ℕ) (old m : Machine) (n : ℕ) (k : Going) (t : State) (next : Next) → old.phase ≡ Some phase → n + to_come_in (Some phase) k ≤ to_come_in (Some phase) (going_of old)
+      → (goes : GoesOn from phase k m.phase (record (going_of m) { finalizers = t })) → AreFewListed phase k m.phase (record (going_of m) { finalizers = t }) goes → Tells m next → IsHearing before old → IsHearing (before + n) m
+  goes_few phase before old m n k t next at few goes listed tells was = hears_on phase before n old m k t next goes (goes_less phase old m n k t at few goes listed) tells was
 
   pub answers_few : (phase : Phase) (answers : List Bool) (m : Machine) (t : State) → length answers ≤ length m.walk.left → length answers + to_come_in (Some phase) (steps phase answers (record (going_of m) { finalizers = t })) ≤ to_come_in (Some phase) (going_of m)
   answers_few phase answers m t few = steps_fewer phase answers t m.walk.kept m.walk.left m.walk.aside m.walk.off m.told few
@@ -829,6 +826,39 @@ module _ (r s g es el sc l : ℕ) where
       (inl (fit_begins phase next (skip phase g) n past turns begins), few_listed next n last k rest (subst IsFit (sym begins.same) past))
   few_listed phase g last k (Ends none turns) fit = tt
 
+  -- what is heard keeps what fits, and leaves less to come by the number of answers
+  pub record HasLess (n : ℕ) (old m : Machine) : Type 0 where
+    pub fit : IsFit m.finalizers.state
+    pub less : n + to_come_at sized es el m ≤ to_come_at sized es el old
+
+  answers_on : (old m : Machine) (next : Next) (answers : List Bool) (goes : GoesTo old (Answers answers) m next) → GoesOn old.from goes.phase (steps goes.phase answers (going_of old)) m.phase (going_of m)
+  answers_on old m next answers goes = subst (λ (x : Going). GoesOn old.from goes.phase x m.phase (going_of m)) (heard_answers goes.phase old.regions answers (going_of old)) goes.goes
+
+  pub answers_less : (old m : Machine) (next : Next) (answers : List Bool) → length answers ≤ length old.walk.left → IsFit old.finalizers.state → GoesTo old (Answers answers) m next → HasLess (length answers) old m
+  answers_less old m next answers few h goes =
+      let k : Going = steps goes.phase answers (going_of old) in
+      let fit = steps_keep IsFit fit_still goes.phase answers (going_of old) h in
+      let on = answers_on old m next answers goes in
+      record {
+        fit = goes_keep IsFit fit_still goes.phase k m.phase (going_of m) on fit;
+        less = goes_less sized es el goes.phase old m (length answers) k m.finalizers.state goes.was (answers_few sized es el goes.phase answers old old.finalizers.state few) on (few_listed goes.phase k m.phase (going_of m) on fit);
+      }
+
+  abbrev words_in : (old m : Machine) (next : Next) (words : List ℕ) → GoesTo old (Words words) m next → Going
+  words_in old m next words goes = record (going_of old) { told = (heard_by goes.phase old.regions (Words words) (going_of old)).told }
+
+  words_on : (old m : Machine) (next : Next) (words : List ℕ) (goes : GoesTo old (Words words) m next) → GoesOn old.from goes.phase (words_in old m next words goes) m.phase (going_of m)
+  words_on old m next words goes = subst (λ (x : Going). GoesOn old.from goes.phase x m.phase (going_of m)) (heard_words goes.phase old.regions words (going_of old)) goes.goes
+
+  pub words_less : (old m : Machine) (next : Next) (words : List ℕ) → IsFit old.finalizers.state → GoesTo old (Words words) m next → HasLess 0 old m
+  words_less old m next words h goes =
+      let k : Going = words_in old m next words goes in
+      let on = words_on old m next words goes in
+      record {
+        fit = goes_keep IsFit fit_still goes.phase k m.phase (going_of m) on h;
+        less = goes_less sized es el goes.phase old m 0 k m.finalizers.state goes.was (omega arith) on (few_listed goes.phase k m.phase (going_of m) on h);
+      }
+
   record IsOn (n : ℕ) (m : Machine) : Type 0 where
     fit : IsFit m.finalizers.state
     hears : IsHearing sized es el n m
@@ -838,22 +868,13 @@ module _ (r s g es el sc l : ℕ) where
   heard begun m n h (Goes {m = old} {next = next} {n = before} answers few goes hears) =
       let was = heard begun old before h hears in
       let asked = was.hears.asked goes.phase goes.was in
-      let k : Going = steps goes.phase answers (going_of old) in
-      let fit = steps_keep IsFit fit_still goes.phase answers (going_of old) was.fit in
-      let on : GoesOn old.from goes.phase k m.phase (going_of m) = subst (λ (x : Going). GoesOn old.from goes.phase x m.phase (going_of m)) (heard_answers goes.phase old.regions answers (going_of old)) goes.goes in
-      record {
-        fit = goes_keep IsFit fit_still goes.phase k m.phase (going_of m) on fit;
-        hears = goes_few sized es el goes.phase before old m (length answers) k m.finalizers.state next goes.was (answers_few sized es el goes.phase answers old old.finalizers.state (omega (arith, few, asked))) on (few_listed goes.phase k m.phase (going_of m) on fit) goes.tells was.hears;
-      }
+      let has = answers_less old m next answers (omega (arith, few, asked)) was.fit goes in
+      record { fit = has.fit; hears = hears_on sized es el goes.phase before (length answers) old m (steps goes.phase answers (going_of old)) m.finalizers.state next (answers_on old m next answers goes) has.less goes.tells was.hears }
   heard begun m n h (Learns {m = old} {next = next} {n = before} words goes hears) =
       let was = heard begun old before h hears in
-      let k : Going = record (going_of old) { told = (heard_by goes.phase old.regions (Words words) (going_of old)).told } in
-      let on : GoesOn old.from goes.phase k m.phase (going_of m) = subst (λ (x : Going). GoesOn old.from goes.phase x m.phase (going_of m)) (heard_words goes.phase old.regions words (going_of old)) goes.goes in
+      let has = words_less old m next words was.fit goes in
       let all : before + 0 ≡ before = omega arith in
-      record {
-        fit = goes_keep IsFit fit_still goes.phase k m.phase (going_of m) on was.fit;
-        hears = subst (λ x. IsHearing sized es el x m) all (goes_few sized es el goes.phase before old m 0 k m.finalizers.state next goes.was (omega arith) on (few_listed goes.phase k m.phase (going_of m) on was.fit) goes.tells was.hears);
-      }
+      record { fit = has.fit; hears = subst (λ x. IsHearing sized es el x m) all (hears_on sized es el goes.phase before 0 old m (words_in old m next words goes) m.finalizers.state next (words_on old m next words goes) has.less goes.tells was.hears) }
   heard begun m n h (Meanwhile {m = old} worked hears) =
       let was = heard begun old n h hears in
       record { fit = fit_worked old m worked was.fit; hears = worked_few sized es el n old m worked was.hears }

@@ -53,4 +53,5 @@ pub mod Spent
 pub mod Unasked
 pub mod Called
 pub mod Rowed
-mod Askable
+pub mod Askable
+pub mod Truly

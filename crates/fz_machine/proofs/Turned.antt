@@ -232,7 +232,7 @@ swept_once a b is = sym (back a) ∙ ap to is ∙ back b
 not_regions : (phase : Phase) (other : Sweep) → is_sweep phase ≡ false → Some phase ≡ Some (Regions other) → ⊥
 not_regions phase other off is = true≢false (sym (ap is_sweep (same_Some phase (Regions other) is)) ∙ off)
 
-swept_no_sweep : (w : Sweep) → is_sweep (swept w) ≡ false
+pub swept_no_sweep : (w : Sweep) → is_sweep (swept w) ≡ false
 swept_no_sweep sweeps.ShortCleanups = refl
 swept_no_sweep sweeps.ShortTargets = refl
 swept_no_sweep sweeps.Objects = refl

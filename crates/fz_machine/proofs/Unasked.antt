@@ -22,7 +22,7 @@ use Rattle.fz_machine.specs.declared.item.Item.{Item}
 use Rattle.fz_machine.specs.declared.pass.Next.{Next}
 use Rattle.fz_machine.specs.declared.pass.Next.TheVariants as told
 use Rattle.fz_machine.specs.declared.phase.Phase.{Phase}
-use Rattle.fz_machine.specs.declared.phase.Phase.TheVariants.{Keys, KeysAgain, Holders, Values, Regions, ShortCleanups, ShortTargets, Objects, LongTargets}
+use Rattle.fz_machine.specs.declared.phase.Phase.TheVariants.{Keys, KeysAgain, Holders, Values, Regions, ShortTargets, Objects, LongTargets}
 use Rattle.fz_machine.specs.declared.phase.Sweep.{Sweep}
 use Rattle.fz_machine.specs.declared.phase.Sweep.TheVariants as sweeps
 use Rattle.fz_machine.specs.declared.question.Ask.{Ask}
@@ -48,6 +48,7 @@ use Rattle.fz_machine.proofs.Phased as phased
 use Rattle.fz_machine.proofs.Phasing.{kept_on}
 use Rattle.fz_machine.proofs.Ran as ran
 use Rattle.fz_machine.proofs.Rounds as rounds
+use Rattle.fz_machine.proofs.Turned.{is_sweep, swept_no_sweep}
 use Rattle.fz_machine.proofs.Throughout.{goes_keep, heard_answers, heard_keeps, heard_words, skip_keeps}
 use Rattle.fz_machine.proofs.Working.{apart, goes_apart, going_apart, heard_apart, work_apart}
 
@@ -302,22 +303,9 @@ module _ (E : Type 0) (word_of : ℕ → Option ℕ) (value : Map Object → ℕ
     abbrev Stops : Option Phase → Type 0
     Stops last = (sweep : Sweep) → last ≡ Some (swept sweep) → noted sweep ≡ false
 
-    abbrev is_sweep : Phase → Bool
-    is_sweep (Regions sweep) = true
-    is_sweep phase = false
-
-    no_sweep : (sweep : Sweep) → is_sweep (swept sweep) ≡ false
-    no_sweep sweeps.ShortCleanups = refl
-    no_sweep sweeps.ShortTargets = refl
-    no_sweep sweeps.Objects = refl
-    no_sweep sweeps.LongTargets = refl
-    no_sweep sweeps.ShortHolders = refl
-    no_sweep sweeps.LongHolders = refl
-    no_sweep sweeps.LongCleanups = refl
-
     goes_past : {from : ℕ} (next : Phase) (n : Going) (last : Option Phase) (k : Going) → GoesOn from next n last k → Stops last → (sweep : Sweep) → swept sweep ≡ next → noted sweep ≡ true → (skip next n).left ≡ []
     goes_past next n last k (Asks item left some) stops sweep is on = absurd (true≢false (sym on ∙ stops sweep (ap Some (sym is))))
-    goes_past next n last k Sweeps stops sweep is on = absurd (true≢false (sym (ap is_sweep is) ∙ no_sweep sweep))
+    goes_past next n last k Sweeps stops sweep is on = absurd (true≢false (sym (ap is_sweep is) ∙ swept_no_sweep sweep))
     goes_past next n last k (Turns none turns begins rest) stops sweep is on = none
     goes_past next n last k (Ends none turns) stops sweep is on = none
 
@@ -377,7 +365,7 @@ module _ (E : Type 0) (word_of : ℕ → Option ℕ) (value : Map Object → ℕ
     -- a question about items isn't about those of which all is noted
     stops_at : (m : Machine) (next : Next) → Tells m next → (sweep : Sweep) → m.phase ≡ Some (swept sweep) → is_noted sweep m ≡ false
     stops_at m (told.Asks question) (phase, was, inl items) sweep at = items.others sweep (same_Some phase (swept sweep) (sym was ∙ at))
-    stops_at m (told.Asks question) (phase, was, inr regions) sweep at = absurd (true≢false (sym (ap is_sweep regions.is) ∙ ap is_sweep (same_Some phase (swept sweep) (sym was ∙ at)) ∙ no_sweep sweep))
+    stops_at m (told.Asks question) (phase, was, inr regions) sweep at = absurd (true≢false (sym (ap is_sweep regions.is) ∙ ap is_sweep (same_Some phase (swept sweep) (sym was ∙ at)) ∙ swept_no_sweep sweep))
     stops_at m (told.Ended passed) (none, same, picked) sweep at = absurd (none-some (swept sweep) (sym none ∙ at))
 
     module _ (first : Machine) (same : first.from ≡ begin.from) (starts : ran.IsAt E word_of value b before begin first before) (all : (sweep : Sweep) → noted sweep ≡ is_noted sweep first) where

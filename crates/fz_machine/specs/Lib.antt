@@ -12,3 +12,4 @@ pub mod Causes
 pub mod Graph
 pub mod Runs
 pub mod Heard
+pub mod Responds

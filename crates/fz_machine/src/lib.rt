@@ -11,6 +11,7 @@ mod law;
 mod listing;
 mod machine;
 mod marks;
+mod over;
 mod pass;
 mod phase;
 mod question;
