@@ -98,6 +98,10 @@ stands slots a o here = at (place_of a) refl (sym (get-objects slots a) ∙ here
         found None slot e = absurd (none-some o e)
         found (Some r) slot e = record { place = i; read = r; at = is; slot = slot; object = same_Some (object_of r) o e }
 
+-- a record has no birth
+pub born_never : (slots : List (Option Record)) (a : ℕ) (o : Object) → get (objects_of slots) a ≡ Some o → o.birth ≡ 0
+born_never slots a o here = ap (λ (x : Object). x.birth) (sym (stands slots a o here).object)
+
 -- ---- what a word points to
 
 record HasExtent (a : ℕ) (x : Extent) : Type 0 where

@@ -37,7 +37,7 @@ abbrev pub words_of : Record → List ℕ
 words_of r = map (λ k. word_of (slice_index_or r.fields k Nothing)) (range_with_len 0 FIELDS)
 
 abbrev pub object_of : Record → Object
-object_of r = record { kind = Scanned; birth = r.birth; words = words_of r }
+object_of r = record { kind = Scanned; birth = 0; words = words_of r }
 
 -- the words of these roots
 abbrev pub addresses_of : List RecordId → List ℕ

@@ -46,7 +46,7 @@ impl EphemeronPair {
         ensures pair { IfOk result (λ pair. pair.id ≡ id) }
         ensures follows { OnOk result (Follows runtime.old.finalizers.state (Ephemeron LinkKind.Short (address_of id.place) (address_of key.place)) runtime.new.finalizers.state) }
         ensures set { OnOk result (runtime.new.heap.records.slots.items ≡ with_field_at id.place 0 (Field.Hidden value) runtime.old.heap.records.slots.items) }
-        ensures rest { OnOk result ((runtime.new.heap.roots ≡ runtime.old.heap.roots) × (runtime.new.heap.births ≡ runtime.old.heap.births)) }
+        ensures rest { OnOk result (runtime.new.heap.roots ≡ runtime.old.heap.roots) }
         ensures room { IsRoomier runtime.old.finalizers.rooms runtime.new.finalizers.rooms }
     {
         runtime.ephemeron(LinkKind::Short, id.address(), key)?;

@@ -1,6 +1,6 @@
 //! A heap of records.
 
-ghost use Rattle.std.specs.Prelude.{◌≡◌, ◌+◌, ◌^◌, ◌<◌, ◌≤◌, ◌⊎◌, [], ℕ, false, if◌then◌else◌, is_some, length, replicate, IfOk, IfSome, IsTrue, MatchOption, None, Some};
+ghost use Rattle.std.specs.Prelude.{◌≡◌, ◌^◌, ◌<◌, ◌≤◌, [], ℕ, false, if◌then◌else◌, is_some, length, replicate, IfOk, IfSome, IsTrue, MatchOption, None, Some};
 ghost use Rattle.std.specs.FinMap.{get, retain_keys};
 ghost use Rattle.std.specs.Option.{option_copied};
 ghost use Rattle.fz_pass.specs.Marks.{IsClosed, Marks as MarksOf};
@@ -20,8 +20,6 @@ pub struct Heap {
     pub(crate) marks: Marks,
     /// The roots of a collection.
     pub roots: Vec<RecordId>,
-    /// How many records were ever made.
-    pub(crate) births: u64,
     /// No index before this one is free.
     pub(crate) cursor: usize,
     pub(crate) ghost few: { length records.slots.items ≤ 2 ^ 32 },
@@ -35,7 +33,7 @@ impl Heap {
     pub fn new(alloc: Global, size: u32) -> Result<Heap, AllocError>
         ensures records { IfOk result (λ h. h.records.slots.items ≡ replicate size None) }
         ensures roots { IfOk result (λ h. h.roots.items ≡ []) }
-        ensures fresh { IfOk result (λ h. (h.births ≡ 0) × (h.cursor ≡ 0)) }
+        ensures fresh { IfOk result (λ h. h.cursor ≡ 0) }
     {
         Ok(Heap {
             records: Records {
@@ -46,26 +44,18 @@ impl Heap {
                 waiting: Vec::with_capacity(alloc, size as usize)?,
             },
             roots: Vec::new(alloc),
-            births: 0,
             cursor: 0,
         })
     }
 
-    /// Makes a record at a free index. Returns `None` if no index is free, or if 2^64 - 1 records were made.
+    /// Makes a record at a free index. Returns `None` if no index is free.
     pub fn make(&mut self, fields: [Field; FIELDS]) -> Option<RecordId>
-        ensures made { MatchOption result (self.new ≡ self.old) (λ id. IsMade self.old.records.slots.items self.new.records.slots.items id (record { fields = fields; birth = self.old.births })) }
-        ensures full { result ≡ None → IsFull self.old.records.slots.items 0 ⊎ (self.old.births + 1 ≡ 2 ^ 64) }
-        ensures births { IfSome result (λ _. self.new.births ≡ self.old.births + 1) }
+        ensures made { MatchOption result (self.new ≡ self.old) (λ id. IsMade self.old.records.slots.items self.new.records.slots.items id (record { fields = fields })) }
+        ensures full { result ≡ None → IsFull self.old.records.slots.items 0 }
         ensures rest { (self.new.marks ≡ self.old.marks) × (self.new.roots ≡ self.old.roots) }
     {
-        let births = self.births.checked_add(1)?;
         let place = self.records.free_from(self.cursor)?;
-        let made = Record {
-            fields,
-            birth: self.births,
-        };
-        self.records.slots[place] = Some(made);
-        self.births = births;
+        self.records.slots[place] = Some(Record { fields });
         self.cursor = place + 1;
         Some(RecordId {
             place: place as u32,
@@ -105,7 +95,7 @@ impl Heap {
     pub fn set(&mut self, id: RecordId, field: usize, value: Field)
         requires { field < FIELDS }
         ensures set { self.new.records.slots.items ≡ with_field_at id.place field value self.old.records.slots.items }
-        ensures rest { (self.new.marks ≡ self.old.marks) × (self.new.roots ≡ self.old.roots) × (self.new.births ≡ self.old.births) × (self.new.cursor ≡ self.old.cursor) }
+        ensures rest { (self.new.marks ≡ self.old.marks) × (self.new.roots ≡ self.old.roots) × (self.new.cursor ≡ self.old.cursor) }
     {
         self.records.set(id.place as usize, field, value);
     }
@@ -113,7 +103,7 @@ impl Heap {
     /// Marks everything that a word reaches. The word is the address of a record or of one of its fields.
     pub fn mark_word(&mut self, word: Addr)
         requires closed { IsClosed (objects_of self.old.records.slots.items) (is_marked self.old.marks) }
-        ensures rest { (self.new.records ≡ self.old.records) × (self.new.roots ≡ self.old.roots) × (self.new.births ≡ self.old.births) }
+        ensures rest { (self.new.records ≡ self.old.records) × (self.new.roots ≡ self.old.roots) }
         ensures marked { MarksOf (Unit {0}) (objects_of self.old.records.slots.items) (is_marked self.old.marks) (is_marked self.new.marks) (IsLedByWord (objects_of self.old.records.slots.items) word) }
     {
         if let Some(object) = self.records.holder(word) {
@@ -124,7 +114,7 @@ impl Heap {
 
     /// Begins a collection: clears all marks, then marks everything that the roots reach.
     pub fn mark_roots(&mut self)
-        ensures rest { (self.new.records ≡ self.old.records) × (self.new.roots ≡ self.old.roots) × (self.new.births ≡ self.old.births) }
+        ensures rest { (self.new.records ≡ self.old.records) × (self.new.roots ≡ self.old.roots) }
         ensures marked { MarksOf (Unit {0}) (objects_of self.old.records.slots.items) (λ a. false) (is_marked self.new.marks) (IsLedByRoot (objects_of self.old.records.slots.items) self.old.roots.items) }
     {
         self.marks.marked.fill(false);
@@ -141,7 +131,7 @@ impl Heap {
         ensures records { (place : ℕ) → slot self.new.records.slots.items place ≡ (if is_marked self.old.marks (address_of place) then slot self.old.records.slots.items place else None) }
         ensures size { length self.new.records.slots.items ≡ length self.old.records.slots.items }
         ensures cursor { self.new.cursor ≡ 0 }
-        ensures rest { (self.new.roots ≡ self.old.roots) × (self.new.births ≡ self.old.births) }
+        ensures rest { self.new.roots ≡ self.old.roots }
     {
         self.cursor = 0;
         for place in 0..self.records.slots.len() {

@@ -21,7 +21,7 @@ impl Host for Heap {
 
     ghost place = { place_of_link };
 
-    ghost is_same = { λ g h. (h.roots ≡ g.roots) × (h.births ≡ g.births) × (h.cursor ≡ g.cursor) × AreFieldsKept g.records.slots.items h.records.slots.items };
+    ghost is_same = { λ g h. (h.roots ≡ g.roots) × (h.cursor ≡ g.cursor) × AreFieldsKept g.records.slots.items h.records.slots.items };
 
     fn is_marked(&self, object: Addr) -> bool {
         self.marks.contains(object)
@@ -37,11 +37,8 @@ impl Host for Heap {
         }
     }
 
-    fn birth(&self, object: Addr) -> u64 {
-        match self.records.at(object) {
-            Some(read) => read.birth,
-            None => 0,
-        }
+    fn birth(&self, _object: Addr) -> u64 {
+        0
     }
 
     fn mark(&mut self, object: Addr) {
@@ -65,9 +62,9 @@ impl Host for Heap {
         }
     }
 
-    ghost reflexive = { λ h. (refl, refl, refl, kept_itself h.records.slots.items) };
+    ghost reflexive = { λ h. (refl, refl, kept_itself h.records.slots.items) };
 
-    ghost transitive = { λ f g h p q. (q.0 ∙ p.0, q.1 ∙ p.1, q.2 ∙ p.2, kept_on f.records.slots.items g.records.slots.items h.records.slots.items p.3 q.3) };
+    ghost transitive = { λ f g h p q. (q.0 ∙ p.0, q.1 ∙ p.1, kept_on f.records.slots.items g.records.slots.items h.records.slots.items p.2 q.2) };
 
     ghost apart = { links_apart };
 }

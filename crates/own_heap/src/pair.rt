@@ -31,7 +31,7 @@ impl WeakPair {
         ensures pair { IfOk result (λ pair. pair.id ≡ id) }
         ensures follows { OnOk result (Follows runtime.old.finalizers.state (Link LinkKind.Long (address_of id.place) (address_of first.place)) runtime.new.finalizers.state) }
         ensures set { OnOk result (runtime.new.heap.records.slots.items ≡ with_field_at id.place 0 (Field.Hidden first) runtime.old.heap.records.slots.items) }
-        ensures rest { OnOk result ((runtime.new.heap.roots ≡ runtime.old.heap.roots) × (runtime.new.heap.births ≡ runtime.old.heap.births)) }
+        ensures rest { OnOk result (runtime.new.heap.roots ≡ runtime.old.heap.roots) }
         ensures room { Spends (UsesLink LinkKind.Long) result runtime.old.finalizers.rooms runtime.new.finalizers.rooms }
     {
         runtime.link(LinkKind::Long, id.address(), first)?;

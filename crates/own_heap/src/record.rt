@@ -39,8 +39,6 @@ pub enum Field {
 #[derive(Clone, Copy, Debug, PartialEq, Eq)]
 pub struct Record {
     pub fields: [Field; FIELDS],
-    /// Distinguishes it from earlier records with the same index.
-    pub birth: u64,
 }
 
 impl RecordId {

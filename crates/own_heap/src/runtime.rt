@@ -1,6 +1,6 @@
 //! A heap with finalizers.
 
-ghost use Rattle.std.specs.Prelude.{◌≡◌, ◌+◌, ◌++◌, ◌∷◌, ◌⊎◌, ◌^◌, [], ◌<◌, if◌then◌else◌, is_some, length, replicate, IfErr, IfOk, IfSome, IsTrue, MatchOption, OnErr, OnOk, None};
+ghost use Rattle.std.specs.Prelude.{◌≡◌, ◌+◌, ◌++◌, ◌∷◌, [], ◌<◌, if◌then◌else◌, is_some, length, replicate, IfErr, IfOk, IsTrue, MatchOption, OnErr, OnOk, None};
 ghost use Rattle.std.specs.FinMap.{contains_key, get};
 ghost use Rattle.fz_model.specs.Steps.{move_answer, old_of};
 ghost use Rattle.fz_pass.specs.Keyed.{ephemeron_at, has_ephemeron, of_kind};
@@ -29,7 +29,7 @@ use std::alloc::{AllocError, Global};
 /// Marks everything that one kind of the finalizers' roots reaches.
 fn mark_kept(heap: &mut Heap, finalizers: &Finalizers, root: Root)
     requires { IsClosed (objects_of heap.old.records.slots.items) (is_marked heap.old.marks) }
-    ensures rest { (heap.new.records ≡ heap.old.records) × (heap.new.roots ≡ heap.old.roots) × (heap.new.births ≡ heap.old.births) }
+    ensures rest { (heap.new.records ≡ heap.old.records) × (heap.new.roots ≡ heap.old.roots) }
     ensures marked { MarksKept (objects_of heap.old.records.slots.items) root finalizers.now.state (is_marked heap.old.marks) (is_marked heap.new.marks) }
 {
     for word in finalizers.roots(root) {
@@ -50,7 +50,7 @@ impl Runtime {
     pub fn new(alloc: Global, size: u32) -> Result<Runtime, AllocError>
         ensures records { IfOk result (λ r. r.heap.records.slots.items ≡ replicate size None) }
         ensures roots { IfOk result (λ r. r.heap.roots.items ≡ []) }
-        ensures fresh { IfOk result (λ r. (r.heap.births ≡ 0) × (r.heap.cursor ≡ 0)) }
+        ensures fresh { IfOk result (λ r. r.heap.cursor ≡ 0) }
         ensures finalizers { IfOk result (λ r. r.finalizers.state ≡ opening) }
     {
         let heap = Heap::new(alloc, size)?;
@@ -71,7 +71,7 @@ impl Runtime {
     pub fn add_root(&mut self, id: RecordId) -> Result<(), AllocError>
         ensures roots { IfOk result (λ _. self.new.heap.roots.items ≡ self.old.heap.roots.items ++ id ∷ []) }
         ensures refused { OnErr result (self.new.heap.roots.items ≡ self.old.heap.roots.items) }
-        ensures rest { (self.new.heap.records ≡ self.old.heap.records) × (self.new.heap.births ≡ self.old.heap.births) × (self.new.finalizers ≡ self.old.finalizers) }
+        ensures rest { (self.new.heap.records ≡ self.old.heap.records) × (self.new.finalizers ≡ self.old.finalizers) }
     {
         self.heap.roots.push(id)?;
         Ok(())
@@ -80,17 +80,16 @@ impl Runtime {
     /// Removes the root that was added last.
     pub fn pop_root(&mut self) -> Option<RecordId>
         ensures roots { MatchOption result (self.old.heap.roots.items ≡ []) (λ id. self.old.heap.roots.items ≡ self.new.heap.roots.items ++ id ∷ []) }
-        ensures rest { (self.new.heap.records ≡ self.old.heap.records) × (self.new.heap.births ≡ self.old.heap.births) × (self.new.finalizers ≡ self.old.finalizers) }
+        ensures rest { (self.new.heap.records ≡ self.old.heap.records) × (self.new.finalizers ≡ self.old.finalizers) }
     {
         self.heap.roots.pop()
     }
 
     /// Makes a record, as `Heap::make` does.
     pub fn make(&mut self, fields: [Field; FIELDS]) -> Option<RecordId>
-        ensures full { result ≡ None → IsFull self.old.heap.records.slots.items 0 ⊎ (self.old.heap.births + 1 ≡ 2 ^ 64) }
+        ensures full { result ≡ None → IsFull self.old.heap.records.slots.items 0 }
         ensures rest { (self.new.finalizers ≡ self.old.finalizers) × (self.new.heap.roots ≡ self.old.heap.roots) }
-        ensures births { IfSome result (λ _. self.new.heap.births ≡ self.old.heap.births + 1) }
-        ensures made { MatchOption result (self.new ≡ self.old) (λ id. IsMade self.old.heap.records.slots.items self.new.heap.records.slots.items id (record { fields = fields; birth = self.old.heap.births })) }
+        ensures made { MatchOption result (self.new ≡ self.old) (λ id. IsMade self.old.heap.records.slots.items self.new.heap.records.slots.items id (record { fields = fields })) }
     {
         self.heap.make(fields)
     }
@@ -98,7 +97,7 @@ impl Runtime {
     /// Writes a field of a record, as `Heap::set` does.
     pub fn set(&mut self, id: RecordId, field: usize, value: Field)
         requires { field < FIELDS }
-        ensures rest { (self.new.finalizers ≡ self.old.finalizers) × (self.new.heap.roots ≡ self.old.heap.roots) × (self.new.heap.births ≡ self.old.heap.births) }
+        ensures rest { (self.new.finalizers ≡ self.old.finalizers) × (self.new.heap.roots ≡ self.old.heap.roots) }
         ensures set { self.new.heap.records.slots.items ≡ with_field_at id.place field value self.old.heap.records.slots.items }
     {
         self.heap.set(id, field, value);
@@ -317,7 +316,7 @@ impl Runtime {
         // Records that remain are unchanged but for references that were cleared: `collected` says which. Numbers stay.
         ensures fields { AreFieldsLeft self.old.heap.records.slots.items self.new.heap.records.slots.items }
         ensures held { HeldStand (objects_of self.new.heap.records.slots.items) self.new.finalizers.state }
-        ensures rest { (self.new.heap.roots ≡ self.old.heap.roots) × (self.new.heap.births ≡ self.old.heap.births) }
+        ensures rest { self.new.heap.roots ≡ self.old.heap.roots }
     {
         self.heap.mark_roots();
         mark_kept(&mut self.heap, &self.finalizers, Root::HeldObject);

@@ -174,7 +174,7 @@ fn take_same(rt: &impl Abort, all: &mut All, taken: u64) -> u64 {
         };
         let same = all.runtime.take().expect(rt, "an entry of all");
         let numbers = (same.reg, same.birth, same.proc);
-        must_be(rt, numbers, (entry.reg, entry.birth, entry.proc), "a pick");
+        must_be(rt, numbers, (entry.reg, 0, entry.proc), "a pick");
         let third = all.asked.take().expect(rt, "an entry of all");
         let numbers = (third.reg, third.obj, third.proc);
         let number_of_its = number_of(entry.proc);

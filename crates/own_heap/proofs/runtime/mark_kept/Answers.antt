@@ -12,7 +12,7 @@ use Rattle.own_heap.proofs.runtime.mark_kept.Goals as goal
 pub loop-word-init : goal.loop-word-init
 loop-word-init c =
     let objects = objects_of c.args.heap.now.records.slots.items in
-    record { records = refl; roots = refl; births = refl; marked = marks_nothing objects (is_marked c.args.heap.now.marks) c.requires; rest = refl }
+    record { records = refl; roots = refl; marked = marks_nothing objects (is_marked c.args.heap.now.marks) c.requires; rest = refl }
 
 pub mark_word-requires : goal.mark_word-requires
 mark_word-requires c =
@@ -27,7 +27,6 @@ loop-word-preserved c =
     record {
       records = c.mark_word.ensures.rest.0 ∙ inv.records;
       roots = c.mark_word.ensures.rest.1 ∙ inv.roots;
-      births = c.mark_word.ensures.rest.2 ∙ inv.births;
       marked = marks_on (IsLedByAny objects (c.loop-word.yielded ++ word ∷ [])) inv.marked led (led_by_more objects c.loop-word.yielded word);
       rest = one_on c.loop-word.yielded (somes c.loop-word.word-iterator) _ (somes c.next.new.self) word inv.rest c.in-Some.ensures.steps;
     }

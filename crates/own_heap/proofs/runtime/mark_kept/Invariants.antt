@@ -11,7 +11,6 @@ abbrev pub invariant-loop-word : goal.invariant-loop-word
 invariant-loop-word l = record {
   records : l.heap.records ≡ l.initial.heap.records;
   roots : l.heap.roots ≡ l.initial.heap.roots;
-  births : l.heap.births ≡ l.initial.heap.births;
   marked : Marks (Unit {0}) (objects_of l.initial.heap.records.slots.items) (is_marked l.initial.heap.marks) (is_marked l.heap.marks) (IsLedByAny (objects_of l.initial.heap.records.slots.items) l.yielded);
   rest : l.yielded ++ somes l.word-iterator ≡ somes l.initial.word-iterator;
 }

@@ -21,6 +21,5 @@ loop-index-preserved c =
     record {
       records = c.mark_word.ensures.rest.0 ∙ c.loop-index.invariant.records;
       roots = c.mark_word.ensures.rest.1 ∙ c.loop-index.invariant.roots;
-      births = c.mark_word.ensures.rest.2 ∙ c.loop-index.invariant.births;
       marked = marks_on (IsLedByRoot objects (take (c.loop-index.index + 1) roots)) c.loop-index.invariant.marked led_by_root (led_more objects roots c.loop-index.index c.index-root.result.now (omega arith) (cc));
     }

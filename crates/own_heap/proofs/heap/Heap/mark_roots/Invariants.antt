@@ -9,6 +9,5 @@ abbrev pub invariant-loop-index : goal.invariant-loop-index
 invariant-loop-index l = record {
   records : l.self.records ≡ l.initial.self.records;
   roots : l.self.roots ≡ l.initial.self.roots;
-  births : l.self.births ≡ l.initial.self.births;
   marked : Marks (Unit {0}) (objects_of l.initial.self.records.slots.items) (λ a. false) (is_marked l.self.marks) (IsLedByRoot (objects_of l.initial.self.records.slots.items) (take l.index l.initial.self.roots.items));
 }

@@ -7,7 +7,6 @@ invariant-loop-place l = record {
   size : length l.self.records.slots.items ≡ length l.initial.self.records.slots.items;
   marks : l.self.marks ≡ l.initial.self.marks;
   roots : l.self.roots ≡ l.initial.self.roots;
-  births : l.self.births ≡ l.initial.self.births;
   cursor : l.self.cursor ≡ 0;
   swept : (k : ℕ) → k < l.place → get_or l.self.records.slots.items k None ≡ cond (get_or l.self.marks.marked.items k false) (get_or l.initial.self.records.slots.items k None) None;
   ahead : (k : ℕ) → l.place ≤ k → get_or l.self.records.slots.items k None ≡ get_or l.initial.self.records.slots.items k None;

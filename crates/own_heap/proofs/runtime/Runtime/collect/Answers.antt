@@ -101,7 +101,7 @@ returns-clause-collected c =
       begun = p.begun;
       passed = p.passed;
       marked = is_marked host.marks;
-      remain = marked_remain old.heap.records.slots.items host.records.slots.items _ (is_marked host.marks) (subst (λ (r : Records). AreFieldsKept r.slots.items host.records.slots.items) last c.pass_with_ephemerons-passed.ensures.same.3) c.sweep.ensures.objects;
+      remain = marked_remain old.heap.records.slots.items host.records.slots.items _ (is_marked host.marks) (subst (λ (r : Records). AreFieldsKept r.slots.items host.records.slots.items) last c.pass_with_ephemerons-passed.ensures.same.2) c.sweep.ensures.objects;
       short = p.short;
       decided = subst
           (λ (left : Map Object). DecidesWhole (Unit {0}) place_of_link value_of (contains p.begun.late) (next_pass state.passes) (length p.begun.queue) (parts_in (objects_of old.heap.records.slots.items) p.begun) p.begun.ephemerons whole.0
@@ -119,4 +119,4 @@ returns-clause-fields c =
     let third = c.mark_kept-2.ensures.rest.0 ∙ second in
     let last = c.mark_kept-3.ensures.rest.0 ∙ third in
     let host = c.pass_with_ephemerons-passed.new.host in
-    fields_left old.heap.records.slots.items host.records.slots.items _ (is_marked host.marks) (subst (λ (r : Records). AreFieldsKept r.slots.items host.records.slots.items) last c.pass_with_ephemerons-passed.ensures.same.3) c.sweep.ensures.records
+    fields_left old.heap.records.slots.items host.records.slots.items _ (is_marked host.marks) (subst (λ (r : Records). AreFieldsKept r.slots.items host.records.slots.items) last c.pass_with_ephemerons-passed.ensures.same.2) c.sweep.ensures.records
