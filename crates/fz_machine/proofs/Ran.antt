@@ -16,8 +16,8 @@ use Rattle.fz_finalizers.proofs.Following.{only_go, whole_queues}
 use Rattle.fz_finalizers.proofs.Keying.{single}
 use Rattle.fz_finalizers.proofs.Plainly.{plain_decides}
 use Rattle.fz_finalizers.proofs.Promised.{promised}
-use Rattle.fz_finalizers.specs.Promises.{IsReached, Past}
-use Rattle.fz_finalizers.specs.States.{State}
+use Rattle.fz_finalizers.specs.Promises.{AreSingle}
+use Rattle.fz_finalizers.specs.States.{AreFlags, State}
 use Rattle.fz_machine.specs.declared.item.Item.{Item}
 use Rattle.fz_machine.specs.declared.phase.Moment.{Moment}
 use Rattle.fz_machine.specs.declared.phase.Moment.TheVariants.{First}
@@ -285,7 +285,7 @@ module _ (E : Type 0) (word_of : ℕ → Option ℕ) (value : Map Object → ℕ
 
 -- ---- from the begin to the end
 
-module _ (E : Type 0) (word_of : ℕ → Option ℕ) (value : Map Object → ℕ → Option ℕ) (from : ℕ) (old begun new : Machine) (past : Past) (before after_it : Graph) (reached : IsReached old.finalizers.state past) (is : IsBegunFrom from old begun) (may : MayBegin word_of value old.finalizers.state before) (seen : AreOldMarked from old.finalizers.state before) (runs : Runs E word_of value begun before new after_it) where
+module _ (E : Type 0) (word_of : ℕ → Option ℕ) (value : Map Object → ℕ → Option ℕ) (from : ℕ) (old begun new : Machine) (before after_it : Graph) (flags : AreFlags old.finalizers.state.registrations old.finalizers.state.late) (single : AreSingle old.finalizers.state) (is : IsBegunFrom from old begun) (may : MayBegin word_of value old.finalizers.state before) (seen : AreOldMarked from old.finalizers.state before) (runs : Runs E word_of value begun before new after_it) where
   abbrev pub b : State
   b = record old.finalizers.state { passes = next_pass old.finalizers.passes }
 
@@ -295,8 +295,8 @@ module _ (E : Type 0) (word_of : ℕ → Option ℕ) (value : Map Object → ℕ
   abbrev pub has_begun : HasBegun word_of value b before
   has_begun = record {
     may = record { registered = may.registered; short = may.short; long = may.long; short_keys = may.short_keys; long_keys = may.long_keys; zero = may.zero; closed = may.closed; births = may.births; starts = may.starts; apart = may.apart; values = may.values };
-    flags = (promised old.finalizers.state past reached).flags;
-    single = single old.finalizers.state past reached;
+    flags = flags;
+    single = single;
     from = begun.from;
     seen = record { registered = λ object r here lt. seen.registered object r here (no_later r.number lt); attached = λ number c here lt. seen.attached number c here (no_later number lt) };
   }
@@ -312,7 +312,7 @@ module _ (E : Type 0) (word_of : ℕ → Option ℕ) (value : Map Object → ℕ
   -- all ephemerons are listed then
   parted_starts : IsParted E word_of value b.ephemerons (Keys First) begun.finalizers.state begun.walk.off before
   parted_starts = subst (λ (s : State). IsParted E word_of value b.ephemerons (Keys First) s begun.walk.off before) (sym is.finalizers)
-      (record { stays = record { zero = may.zero; were = λ word key of. of; single = single old.finalizers.state past reached }; all = λ out. absurd (true≢false out) })
+      (record { stays = record { zero = may.zero; were = λ word key of. of; single = single }; all = λ out. absurd (true≢false out) })
 
   -- nothing is taken or finished yet
   as_b : apart b.taken b.held begun.finalizers.state ≡ begun.finalizers.state
@@ -336,18 +336,18 @@ module _ (E : Type 0) (word_of : ℕ → Option ℕ) (value : Map Object → ℕ
   pub where_it_is : (s : State) × (h : HasBegun word_of value s before) × ((phase : Phase) → new.phase ≡ Some phase → IsOn E word_of value s before h phase (going_apart s.taken s.held (machines.going_of new)) after_it)
   where_it_is = (b, has_begun, λ phase at. subst (λ o. IsWhere E word_of value b before has_begun o there after_it) at is_where)
 
-module _ (E : Type 0) (word_of : ℕ → Option ℕ) (value : Map Object → ℕ → Option ℕ) (from : ℕ) (old begun new : Machine) (past : Past) (before after_it : Graph) (reached : IsReached old.finalizers.state past) (is : IsBegunFrom from old begun) (may : MayBegin word_of value old.finalizers.state before) (seen : AreOldMarked from old.finalizers.state before) (runs : Runs E word_of value begun before new after_it) (ends : new.phase ≡ None) where
+module _ (E : Type 0) (word_of : ℕ → Option ℕ) (value : Map Object → ℕ → Option ℕ) (from : ℕ) (old begun new : Machine) (before after_it : Graph) (flags : AreFlags old.finalizers.state.registrations old.finalizers.state.late) (single : AreSingle old.finalizers.state) (is : IsBegunFrom from old begun) (may : MayBegin word_of value old.finalizers.state before) (seen : AreOldMarked from old.finalizers.state before) (runs : Runs E word_of value begun before new after_it) (ends : new.phase ≡ None) where
   abbrev c : State
-  c = b E word_of value from old begun new past before after_it reached is may seen runs
+  c = b E word_of value from old begun new before after_it flags single is may seen runs
 
   abbrev begins_so : HasBegun word_of value c before
-  begins_so = has_begun E word_of value from old begun new past before after_it reached is may seen runs
+  begins_so = has_begun E word_of value from old begun new before after_it flags single is may seen runs
 
   abbrev end : State
   end = apart c.taken c.held new.finalizers.state
 
   at_end : IsAtEnd E word_of value c before end after_it
-  at_end = subst (λ o. IsWhere E word_of value c before begins_so o (going_apart c.taken c.held (machines.going_of new)) after_it) ends (is_where E word_of value from old begun new past before after_it reached is may seen runs)
+  at_end = subst (λ o. IsWhere E word_of value c before begins_so o (going_apart c.taken c.held (machines.going_of new)) after_it) ends (is_where E word_of value from old begun new before after_it flags single is may seen runs)
 
   -- what is found
   abbrev found : ℕ → Bool
@@ -401,7 +401,7 @@ module _ (E : Type 0) (word_of : ℕ → Option ℕ) (value : Map Object → ℕ
   }
 
   works_so : Works end new.finalizers.state
-  works_so = works_on E word_of value from old begun new past before after_it reached is may seen runs
+  works_so = works_on E word_of value from old begun new before after_it flags single is may seen runs
 
   marks_so : (a : ℕ) → IsTrue (before.marked a) → IsTrue (after_it.marked a)
   marks_so a on = turning.still_marked E word_of value mid found_graph begins_behind end after_it ending a (at_end.1.settled.more a on)
@@ -417,7 +417,7 @@ module _ (E : Type 0) (word_of : ℕ → Option ℕ) (value : Map Object → ℕ
     decides_plain : DecidesFor E word_of mid.passes begun_state before.objects before.marked passed_state after_it.objects after_it.marked
     decides_plain =
         let same = at_end.1.none none in
-        let normal = normal_of old.finalizers.state.registrations old.finalizers.state.late (promised old.finalizers.state past reached).flags in
+        let normal = normal_of old.finalizers.state.registrations old.finalizers.state.late flags in
         plain_decides E word_of value mid.passes begun_state before.objects before.marked passed_state after_it.objects after_it.marked normal may.zero may.closed none
         (subst (λ (m : ℕ → Bool). DecidesWholeFor E word_of value mid.passes begun_state before.objects m passed_state after_it.objects after_it.marked) same decides_it.0)
 
@@ -435,10 +435,10 @@ module _ (E : Type 0) (word_of : ℕ → Option ℕ) (value : Map Object → ℕ
     makes_plain_pass = record { passed = end; passes = passes_plain; works = works_so; marks = marks_so; closed = closed_so }
 
 pub runs_young_pass : (E : Type 0) → RunsYoungPass E
-runs_young_pass E from word_of value old begun new past before after_it reached is may seen runs ends = makes_pass E word_of value from old begun new past before after_it reached is may seen runs ends
+runs_young_pass E from word_of value old begun new past before after_it reached is may seen runs ends = makes_pass E word_of value from old begun new before after_it (promised old.finalizers.state past reached).flags (single old.finalizers.state past reached) is may seen runs ends
 
 pub runs_young_plain_pass : (E : Type 0) → RunsYoungPlainPass E
-runs_young_plain_pass E from word_of value old begun new past before after_it reached none is may seen runs ends = makes_plain_pass E word_of value from old begun new past before after_it reached is may seen runs ends none
+runs_young_plain_pass E from word_of value old begun new past before after_it reached none is may seen runs ends = makes_plain_pass E word_of value from old begun new before after_it (promised old.finalizers.state past reached).flags (single old.finalizers.state past reached) is may seen runs ends none
 
 -- nothing comes before the first number
 pub none_old : (s : State) (g : Graph) → AreOldMarked 0 s g

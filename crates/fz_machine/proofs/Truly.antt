@@ -1,5 +1,5 @@
 -- The answers of a host that can be called: they are true of its graph, and each leaves less to come.
-use Rattle.std.proofs.Common.{◌≡◌, ◌≤◌, ◌<◌, ◌+◌, ◌^◌, ◌++◌, ◌∷◌, ◌∙◌, [], ℕ, suc, bit_or, Bool, true, false, cond, List, length, map, take, drop, zip, get_or, All, Option, Some, None, inl, inr, Result, Ok, Err, IfOk, OnOk, refl, sym, ap, subst, arith}
+use Rattle.std.proofs.Common.{IsTrue, ◌≡◌, ◌≤◌, ◌<◌, ◌+◌, ◌^◌, ◌++◌, ◌∷◌, ◌∙◌, [], ℕ, suc, bit_or, Bool, true, false, cond, List, length, map, take, drop, zip, get_or, All, Option, Some, None, inl, inr, Result, Ok, Err, IfOk, OnOk, refl, sym, ap, subst, arith}
 use Rattle.std.proofs.Math.Seq.{drop-cons}
 use Rattle.std.proofs.lemmas.List.{get_or-map, get_or-take, length-append, length-map, length-take}
 use Rattle.std.proofs.lemmas.List.Elements.{All-get_or}
@@ -13,8 +13,17 @@ use Rattle.fz_model.specs.declared.answers.Registration.{Registration}
 use Rattle.fz_finalizers.specs.declared.cleanups.Attached.{Attached}
 use Rattle.fz_finalizers.specs.declared.kinds.Kind.TheVariants.{Normal}
 use Rattle.fz_finalizers.specs.Follows.{next_pass, queued_attached, queued_cleanup, queued_object, queued_one}
+use Rattle.std.proofs.Math.Bool.{Bool-set}
+use Rattle.std.proofs.Math.Logic.{∥∥₁_elim}
+use Rattle.std.proofs.lemmas.Bool.{true≢false}
+use Rattle.std.specs.FinSet.{contains}
+use Rattle.fz_model.specs.declared.kinds.RegKind.{RegKind}
+use Rattle.fz_model.specs.declared.kinds.RegKind.TheVariants as kinds
 use Rattle.fz_finalizers.specs.Passed.{PassesWhole}
-use Rattle.fz_finalizers.specs.States.{State}
+use Rattle.fz_finalizers.specs.Promises.{AreSingle, IsReached, Past}
+use Rattle.fz_finalizers.proofs.Keying.{single}
+use Rattle.fz_finalizers.proofs.Promised.{promised}
+use Rattle.fz_finalizers.specs.States.{AreFlags, State}
 use Rattle.fz_model.specs.Bits.{has_bit}
 use Rattle.fz_model.specs.State.{Map, Object}
 use Rattle.fz_machine.specs.declared.item.Item.{Item}
@@ -321,3 +330,35 @@ passes_alone E place value old new before after makes taken held =
     let same_held : makes.passed.held ≡ new.held = ap (λ (s : State). s.held) pass.long.2 ∙ queues.held ∙ ap (λ (s : State). s.held) pass.short.2 ∙ sym held in
     let is : makes.passed ≡ new = (λ i. record makes.passed { taken = same_taken i; held = same_held i }) ∙ sym (works_apart new.taken new.held makes.passed new makes.works) in
     subst (λ (s : State). PassesWhole E place value old before.objects before.marked s after.objects after.marked) is makes.passes
+
+-- ---- what calls led to
+
+abbrev is_normal : RegKind → Bool
+is_normal kinds.Normal = true
+is_normal kinds.IgnoreSelf = false
+is_normal kinds.NoOrder = false
+
+module _ (s : State) (made : ∥ ((past : Past) × IsReached s past) ∥₁) where
+  abbrev normal_at : ℕ → Bool
+  normal_at a = option_map_or (λ (r : Registration). is_normal r.kind) (get s.registrations a) false
+
+  normal_here : (a : ℕ) (r : Registration) → get s.registrations a ≡ Some r → r.kind ≡ kinds.Normal → normal_at a ≡ true
+  normal_here a r here kind = ap (λ o. option_map_or (λ (q : Registration). is_normal q.kind) o false) here ∙ ap is_normal kind
+
+  flag_at : (a : ℕ) → IsTrue (contains s.late a) → normal_at a ≡ true
+  flag_at a late = ∥∥₁_elim made (Bool-set (normal_at a) true) (λ (past, reached). let f = (promised s past reached).flags a late in normal_here a f.0 f.1 f.2)
+
+  pub made_flags : AreFlags s.registrations s.late
+  made_flags a late = by (get s.registrations a) refl (flag_at a late)
+    where
+      is : (kind : RegKind) → is_normal kind ≡ true → kind ≡ kinds.Normal
+      is kinds.Normal on = refl
+      is kinds.IgnoreSelf on = absurd (true≢false (sym on))
+      is kinds.NoOrder on = absurd (true≢false (sym on))
+
+      by : (o : Option Registration) → get s.registrations a ≡ o → option_map_or (λ (r : Registration). is_normal r.kind) o false ≡ true → (r : Registration) × (get s.registrations a ≡ Some r) × (r.kind ≡ kinds.Normal)
+      by None here on = absurd (true≢false (sym on))
+      by (Some r) here on = (r, here, is r.kind on)
+
+  pub made_single : AreSingle s
+  made_single word short long here there = ∥∥₁_elim made (λ x y. absurd x) (λ (past, reached). single s past reached word short long here there)

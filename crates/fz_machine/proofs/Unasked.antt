@@ -18,6 +18,8 @@ use Rattle.fz_pass.specs.Marks.{with_targets}
 use Rattle.fz_finalizers.specs.declared.cleanups.Attached.{Attached}
 use Rattle.fz_finalizers.specs.States.{State}
 use Rattle.fz_finalizers.proofs.Counting.{len_gone}
+use Rattle.fz_finalizers.proofs.Keying.{single}
+use Rattle.fz_finalizers.proofs.Promised.{promised}
 use Rattle.fz_machine.specs.declared.item.Item.{Item}
 use Rattle.fz_machine.specs.declared.pass.Next.{Next}
 use Rattle.fz_machine.specs.declared.pass.Next.TheVariants as told
@@ -420,9 +422,9 @@ costs_unmarked E from word_of value old begun new past before after_it reached i
     let kinds = both_kinds t.cleanups in
     let sc = kinds.0 in
     let l = kinds.1 in
-    let b = ran.b E word_of value from old begun new past before after_it reached is may seen run in
-    let begin = ran.has_begun E word_of value from old begun new past before after_it reached is may seen run in
-    let starts = ran.is_first E word_of value from old begun new past before after_it reached is may seen run in
+    let b = ran.b E word_of value from old begun new before after_it (promised old.finalizers.state past reached).flags (single old.finalizers.state past reached) is may seen run in
+    let begin = ran.has_begun E word_of value from old begun new before after_it (promised old.finalizers.state past reached).flags (single old.finalizers.state past reached) is may seen run in
+    let starts = ran.is_first E word_of value from old begun new before after_it (promised old.finalizers.state past reached).flags (single old.finalizers.state past reached) is may seen run in
     let budgets : Sweep → ℕ = budget E word_of value b before begin noted r s g es el sc l in
     let start : IsHere E word_of value b before begin noted r s g es el sc l 0 begun = record {
       fit = subst (λ (u : State). IsFit r s g es el sc l (apart b.taken b.held u)) (sym is.finalizers) (record { registered = omega arith; short = omega arith; long = omega arith; short_keys = omega arith; long_keys = omega arith; attached = (kinds.2, kinds.3) });

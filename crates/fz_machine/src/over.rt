@@ -85,8 +85,8 @@ impl Machine {
     /// faster itself, by `next_marks`. Fails with `PassOpen`.
     pub fn pass_over<H: Values>(&mut self, host: &mut H) -> Result<Passed, Refused>
         requires begin { MayBegin H.place H.value self.old.finalizers.state (graph_of (H.objects host.old) (H.marked host.old)) }
-        // The finalizers were made by calls, as all are.
-        requires reached { (past : Past) × IsReached self.old.finalizers.state past }
+        // Calls led to the finalizers, as to all that there are.
+        requires reached { ∥ ((past : Past) × IsReached self.old.finalizers.state past) ∥₁ }
         ensures judged { IsJudgedBy self.old.phase [] result }
         ensures refused { OnErr result ((self.new ≡ self.old) × (host.new ≡ host.old)) }
         ensures passes { OnOk result (PassesWhole H.is_exact H.place H.value self.old.finalizers.state (H.objects host.old) (H.marked host.old) self.new.finalizers.state (H.objects host.new) (H.marked host.new)) }

@@ -9,6 +9,7 @@ mod cleanups;
 mod ephemerons;
 mod guardians;
 mod keyed_graphs;
+mod over;
 mod regions;
 mod runtime;
 mod sets;

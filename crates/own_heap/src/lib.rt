@@ -28,4 +28,4 @@ pub use law::{
 };
 pub use pair::WeakPair;
 pub use record::{FIELDS, Field, OUTSIDE, Record, RecordId};
-pub use runtime::Runtime;
+pub use runtime::{Runtime, mark_kept};

@@ -27,7 +27,7 @@ use fz_why::{NoMemory, Reason, stuck, why};
 use std::alloc::{AllocError, Global};
 
 /// Marks everything that one kind of the finalizers' roots reaches.
-fn mark_kept(heap: &mut Heap, finalizers: &Finalizers, root: Root)
+pub fn mark_kept(heap: &mut Heap, finalizers: &Finalizers, root: Root)
     requires { IsClosed (objects_of heap.old.records.slots.items) (is_marked heap.old.marks) }
     ensures rest { (heap.new.records ≡ heap.old.records) × (heap.new.roots ≡ heap.old.roots) }
     ensures marked { MarksKept (objects_of heap.old.records.slots.items) root finalizers.now.state (is_marked heap.old.marks) (is_marked heap.new.marks) }

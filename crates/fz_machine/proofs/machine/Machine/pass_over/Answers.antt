@@ -5,9 +5,9 @@ use Rattle.fz_machine.specs.Asks.{bits_of}
 use Rattle.fz_machine.specs.Graph.{graph_of}
 use Rattle.fz_machine.specs.Machines.{Answers, Tells, next_of}
 use Rattle.fz_machine.specs.Runs.{AreHonest, Begun, Goes}
-use Rattle.fz_machine.proofs.Askable.{asks_rightly}
-use Rattle.fz_machine.proofs.Ran.{runs_pass}
-use Rattle.fz_machine.proofs.Truly.{IsAlone, fits_asked, fits_begun, goes_alone, itself_alone, leaves_less, passes_alone}
+use Rattle.fz_machine.proofs.Askable.{asks_on}
+use Rattle.fz_machine.proofs.Ran.{makes_pass, none_old}
+use Rattle.fz_machine.proofs.Truly.{IsAlone, fits_asked, fits_begun, goes_alone, itself_alone, leaves_less, made_flags, made_single, passes_alone}
 use Rattle.fz_machine.proofs.machine.Machine.pass_over.Goals as goal
 
 pub loop-step-init : goal.loop-step-init
@@ -34,10 +34,11 @@ loop-step-init g c =
 
 pub answer-requires-clause-askable : goal.answer-requires-clause-askable
 answer-requires-clause-askable g c phase at =
-    let (past, reached) = c.requires.reached in
+    let old = c.args.self.now.finalizers.state in
+    let first = graph_of (g.H.Host.objects c.args.host.now) (g.H.Host.marked c.args.host.now) in
     let (begun, is, runs) = c.loop-step.invariant.begun in
-    asks_rightly g.H.Host.is_exact g.H.Host.place g.H.Values.value c.args.self.now begun c.loop-step.self past (graph_of (g.H.Host.objects c.args.host.now) (g.H.Host.marked c.args.host.now))
-    (graph_of (g.H.Host.objects c.loop-step.host) (g.H.Host.marked c.loop-step.host)) phase reached is c.requires.begin runs at
+    asks_on g.H.Host.is_exact 0 g.H.Host.place g.H.Values.value c.args.self.now begun c.loop-step.self (graph_of (g.H.Host.objects c.args.host.now) (g.H.Host.marked c.args.host.now))
+    (graph_of (g.H.Host.objects c.loop-step.host) (g.H.Host.marked c.loop-step.host)) phase (made_flags old c.requires.reached) (made_single old c.requires.reached) is c.requires.begin (none_old old first) runs at
 
 pub loop-step-smaller : goal.loop-step-smaller
 loop-step-smaller g c =
@@ -63,11 +64,10 @@ returns-in-Ended g c =
     let now = graph_of (g.H.Host.objects c.loop-step.host) (g.H.Host.marked c.loop-step.host) in
     let old = c.args.self.now in
     let new = c.loop-step.self in
-    let (past, reached) = c.requires.reached in
     let (begun, is, runs) = c.loop-step.invariant.begun in
     let tells : Tells new (next_of (steps.Ended c.in-Ended.passed) c.loop-step.about) = subst (λ step. Tells new (next_of step c.loop-step.about)) c.in-Ended.is c.loop-step.invariant.tells in
     let alone = c.loop-step.invariant.alone in
-    let makes = runs_pass g.H.Host.is_exact g.H.Host.place g.H.Values.value old begun new past first now reached is c.requires.begin runs tells.0 in
+    let makes = makes_pass g.H.Host.is_exact g.H.Host.place g.H.Values.value 0 old begun new first now (made_flags old.finalizers.state c.requires.reached) (made_single old.finalizers.state c.requires.reached) is c.requires.begin (none_old old.finalizers.state first) runs tells.0 in
     let picked : c.in-Ended.passed.picked ≡ length new.finalizers.queue - length old.finalizers.queue = tells.2 ∙ ap (λ n. length new.finalizers.queue - n) c.loop-step.invariant.before in
     let least = alone.queued in
     record {

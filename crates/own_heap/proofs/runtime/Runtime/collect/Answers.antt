@@ -1,12 +1,9 @@
-use Rattle.std.proofs.Common.{◌∙◌, ℕ, length, refl, sym, subst, inl, IsTrue}
+use Rattle.std.proofs.Common.{◌∙◌, ℕ, length, sym, subst, inl, IsTrue}
 use Rattle.fz_model.specs.State.{Map, Object}
 use Rattle.fz_pass.specs.Marks.{IsClosed}
 use Rattle.std.specs.FinSet.{contains}
 use Rattle.fz_pass.specs.Whole.{DecidesWhole}
 use Rattle.fz_finalizers.specs.declared.roots.Root.TheVariants.{HeldObject, HeldData, RegisteredData}
-use Rattle.std.specs.FinMap.{retain_keys}
-use Rattle.fz_model.specs.declared.kinds.LinkKind.TheVariants.{Short, Long}
-use Rattle.fz_finalizers.specs.Cleanups.{is_due}
 use Rattle.fz_finalizers.specs.Follows.{next_pass}
 use Rattle.fz_finalizers.specs.Passed.{PassesWhole, parts_in}
 use Rattle.own_heap.specs.declared.records.Records.{Records}
@@ -16,8 +13,7 @@ use Rattle.own_heap.specs.Marking.{is_marked}
 use Rattle.own_heap.specs.Sound.{IsSound}
 use Rattle.own_heap.specs.Collected.{MarksKept}
 use Rattle.own_heap.proofs.Collected.{fields_left, marked_remain, zero_nowhere}
-use Rattle.own_heap.proofs.Keeping.{cleans_back, cleans_sound, passed_registered, passed_short, passed_long, passed_short_keys, passed_long_keys, passed_held}
-use Rattle.own_heap.proofs.Holding.{held_found}
+use Rattle.own_heap.proofs.Holding.{collected_sound}
 use Rattle.own_heap.proofs.runtime.Runtime.collect.Goals as goal
 
 pub mark_kept-requires : goal.mark_kept-requires
@@ -43,7 +39,6 @@ pub invariant_of-self : goal.invariant_of-self
 invariant_of-self c =
     let old = c.args.self.now in
     let slots = old.heap.records.slots.items in
-    let objects = objects_of slots in
     let state = old.finalizers.state in
     let first = c.mark_roots.ensures.rest.0 in
     let second = c.mark_kept.ensures.rest.0 ∙ first in
@@ -52,24 +47,12 @@ invariant_of-self c =
     let by_objects = subst (λ (r : Records). MarksKept (objects_of r.slots.items) HeldObject state (is_marked c.mark_roots.new.self.marks) (is_marked c.mark_kept.new.heap.marks)) first c.mark_kept.ensures.marked in
     let still = λ (a : ℕ) (h : IsTrue (is_marked c.mark_kept.new.heap.marks a)). c.mark_kept-3.ensures.marked.marked.least a (inl (c.mark_kept-2.ensures.marked.marked.least a (inl h))) in
     let host = c.pass_with_ephemerons-passed.new.host in
-    let left = retain_keys (objects_of host.records.slots.items) (is_marked host.marks) in
     let traced = is_marked c.mark_kept-3.new.heap.marks in
     let new = c.pass_with_ephemerons-passed.new.self.state in
     let whole = subst (λ (r : Records). PassesWhole (Unit {0}) place_of_link value_of state (objects_of r.slots.items) traced new (objects_of host.records.slots.items) (is_marked host.marks)) last c.pass_with_ephemerons-passed.ensures.passes in
-    let found = whole.0 in
-    let p = whole.2 in
-    let begun = cleans_sound objects (next_pass state.passes) (is_due Short found) state p.begun p.short old.sound in
-    let queues = p.follows.0 in
-    let passed : IsSound left p.passed = record {
-      registered = passed_registered _ _ _ _ _ _ _ _ _ _ _ _ _ p.decided begun.registered;
-      short = passed_short _ _ _ _ _ _ _ _ _ _ _ _ _ p.decided begun.short;
-      long = passed_long _ _ _ _ _ _ _ _ _ _ _ _ _ p.decided begun.long;
-      short_keys = passed_short_keys _ _ _ _ _ _ _ _ _ _ _ _ _ p.decided begun.short_keys;
-      long_keys = passed_long_keys _ _ _ _ _ _ _ _ _ _ _ _ _ p.decided begun.long_keys;
-      held = passed_held _ _ _ _ _ _ _ _ _ _ _ _ _ p.decided p.begun p.passed refl refl queues.taken queues.held (λ e here some. (whole.1.more e.obj (still e.obj (held_found slots state old.sound _ _ by_objects e (cleans_back objects (next_pass state.passes) (is_due Short found) state p.begun p.short e here some) some)), begun.held e here some));
-    } in
     record {
-      sound = subst (λ m. IsSound m new) (sym c.sweep.ensures.objects) (cleans_sound left (next_pass state.passes) (is_due Long (is_marked host.marks)) p.passed new p.long passed);
+      sound = subst (λ m. IsSound m new) (sym c.sweep.ensures.objects)
+          (collected_sound slots state new (is_marked c.mark_roots.new.self.marks) (is_marked c.mark_kept.new.heap.marks) traced (objects_of host.records.slots.items) (is_marked host.marks) old.sound by_objects still whole);
     }
 
 pub returns-clause-collected : goal.returns-clause-collected
