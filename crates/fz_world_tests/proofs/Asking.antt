@@ -1,5 +1,6 @@
 -- What calls of a machine keep, as a pass over the heap of records requires it: no pass is open, and calls lead to its state.
 use Rattle.std.proofs.Common.{◌≡◌, ◌≤◌, ◌<◌, ◌+◌, ◌*◌, ◌^◌, ◌∙◌, ℕ, Bool, List, length, Option, Some, None, is_some, Result, Ok, Err, OnErr, OnOk, refl, sym, ap, subst, arith, IsTrue}
+use Rattle.std.proofs.Math.Logic.{∥∥₁_map}
 use Rattle.std.proofs.lemmas.Bool.{both_ways}
 use Rattle.std.specs.FinMap.{contains_key, get}
 use Rattle.fz_model.specs.declared.answers.Entry.{Entry}
@@ -21,7 +22,7 @@ use Rattle.own_heap.proofs.Slots.{address_at, born_never, slice_low, stands}
 
 -- calls lead to a state
 abbrev pub IsMade : State → Type 0
-IsMade s = (past : Past) × IsReached s past
+IsMade s = ∥ ((past : Past) × IsReached s past) ∥₁
 
 -- a call that changes finalizers is refused, or makes its event
 pub record IsCalled {A E : Type 0} (old new : Machine) (event : Event) (r : Result A E) : Type 0 where
@@ -32,18 +33,18 @@ pub record IsCalled {A E : Type 0} (old new : Machine) (event : Event) (r : Resu
 
 pub called : {A E : Type 0} (old new : Machine) (event : Event) (r : Result A E) → OnErr r ((new.phase ≡ old.phase) × (new.finalizers.state ≡ old.finalizers.state))
     → OnOk r (IsIdle new × Follows old.finalizers.state event new.finalizers.state) → old.phase ≡ None → IsMade old.finalizers.state → IsCalled old new event r
-called old new event (Ok x) refused follows idle made = record { idle = follows.0; made = (with_event made.0 event, Then event made.1 follows.1); refused = refused; follows = follows.1 }
+called old new event (Ok x) refused follows idle made = record { idle = follows.0; made = ∥∥₁_map made (λ (past, reached). (with_event past event, Then event reached follows.1)); refused = refused; follows = follows.1 }
 called old new event (Err e) refused follows idle made = record { idle = refused.0 ∙ idle; made = subst IsMade (sym refused.1) made; refused = refused.1; follows = follows }
 
 -- so does a worker's call, which keeps the pass
 pub finished : {A E : Type 0} (old new : Machine) (event : Event) (r : Result A E) → OnErr r (new.finalizers.state ≡ old.finalizers.state) → OnOk r (Follows old.finalizers.state event new.finalizers.state) → KeepsPass old new → old.phase ≡ None → IsMade old.finalizers.state
     → IsCalled old new event r
-finished old new event (Ok x) refused follows keeps idle made = record { idle = ap (λ (m : Machine). m.phase) keeps ∙ idle; made = (with_event made.0 event, Then event made.1 follows); refused = refused; follows = follows }
+finished old new event (Ok x) refused follows keeps idle made = record { idle = ap (λ (m : Machine). m.phase) keeps ∙ idle; made = ∥∥₁_map made (λ (past, reached). (with_event past event, Then event reached follows)); refused = refused; follows = follows }
 finished old new event (Err e) refused follows keeps idle made = record { idle = ap (λ (m : Machine). m.phase) keeps ∙ idle; made = subst IsMade (sym refused) made; refused = refused; follows = follows }
 
 pub taken_made : (old new : Machine) (o : Option Entry) → IsTaken Take old new o → IsMade old.finalizers.state → IsMade new.finalizers.state
 taken_made old new None (none, same) made = subst IsMade (sym same) made
-taken_made old new (Some e) follows made = (with_event made.0 (Take e), Then (Take e) made.1 follows)
+taken_made old new (Some e) follows made = ∥∥₁_map made (λ (past, reached). (with_event past (Take e), Then (Take e) reached follows))
 
 -- a pass over the records may begin
 pub may_begin : (slots : List (Option Record)) (s : State) (marked : ℕ → Bool) → length slots ≤ 2 ^ 32 → IsSound (objects_of slots) s → IsClosed (objects_of slots) marked → MayBegin place_of_link value_of s (graph_of (objects_of slots) marked)

@@ -8,14 +8,12 @@ ghost use Rattle.own_heap.specs.Sound.{IsSound};
 
 use crate::equal::{at, must_be};
 use crate::hosts::beside::Random;
-use fz_finalizers::{
-    Cleanup, Entry, Finalizer, Finalizers, Kind, LinkAnswer, LinkKind, Old, Passed, Root,
-};
+use fz_finalizers::{Cleanup, Entry, Finalizer, Kind, LinkAnswer, LinkKind, Old, Passed, Root};
 use fz_machine::{By, Machine, Refused};
 use fz_model::Addr;
 use own_heap::Field::{Hidden, Nothing, Reference};
 use own_heap::{FIELDS, Field, Heap, RecordId, Runtime, mark_kept};
-use std::alloc::Global;
+use std::alloc::{AllocError, Global};
 use std::process::Abort;
 use std::test::*;
 
@@ -29,15 +27,17 @@ struct Asked {
     machine: Machine,
     ghost idle: { machine.phase ≡ None },
     ghost sound: { IsSound (objects_of heap.records.slots.items) machine.finalizers.state },
-    ghost reached: { (past : Past) × IsReached machine.finalizers.state past },
+    ghost reached: { ∥ ((past : Past) × IsReached machine.finalizers.state past) ∥₁ },
 }
 
 impl Asked {
     /// An empty heap with room for these records, whose passes ask about regions or not.
-    fn new(rt: &impl Abort, alloc: Global, size: u32, by: By) -> Asked {
-        let heap = Heap::new(alloc, size).expect(rt, "a heap");
-        let machine = Machine::with_regions(alloc, by).expect(rt, "a machine");
-        Asked { heap, machine }
+    fn new(alloc: Global, size: u32, by: By) -> Result<Asked, AllocError> {
+        let heap = Heap::new(alloc, size)?;
+        let Ok(machine) = Machine::with_regions(alloc, by) else {
+            return Err(AllocError);
+        };
+        Ok(Asked { heap, machine })
     }
 
     fn make(&mut self) -> Option<RecordId> {
@@ -60,12 +60,7 @@ impl Asked {
         self.machine.register(id.address(), finalizer)
     }
 
-    fn link(
-        &mut self,
-        kind: LinkKind,
-        word: Addr,
-        target: RecordId,
-    ) -> Result<LinkAnswer, Refused>
+    fn link(&mut self, kind: LinkKind, word: Addr, target: RecordId) -> Result<LinkAnswer, Refused>
         requires { IsTrue (is_some (slot self.old.heap.records.slots.items target.place)) }
     {
         self.machine.link(kind, word, target.address())
@@ -124,7 +119,7 @@ struct Both {
 fn records(rt: &impl Abort, alloc: Global, by: By) -> Both {
     let mut both = Both {
         runtime: Runtime::new(alloc, RECORDS as u32).expect(rt, "a runtime"),
-        asked: Asked::new(rt, alloc, RECORDS as u32, by),
+        asked: Asked::new(alloc, RECORDS as u32, by).expect(rt, "a machine"),
         ids: Vec::new(alloc),
     };
     for _ in 0..RECORDS {
