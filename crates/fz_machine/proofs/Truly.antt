@@ -1,5 +1,5 @@
 -- The answers of a host that can be called: they are true of its graph, and each leaves less to come.
-use Rattle.std.proofs.Common.{IsTrue, ◌≡◌, ◌≤◌, ◌<◌, ◌+◌, ◌^◌, ◌++◌, ◌∷◌, ◌∙◌, [], ℕ, suc, bit_or, Bool, true, false, cond, List, length, map, take, drop, zip, get_or, All, Option, Some, None, inl, inr, Result, Ok, Err, IfOk, OnOk, refl, sym, ap, subst, arith}
+use Rattle.std.proofs.Common.{IsTrue, ◌≡◌, ◌≤◌, ◌<◌, ◌+◌, ◌-◌, ◌^◌, ◌++◌, ◌∷◌, ◌∙◌, [], ℕ, suc, bit_or, Bool, true, false, cond, List, length, map, take, drop, zip, get_or, All, Option, Some, None, inl, inr, Result, Ok, Err, IfOk, OnOk, refl, sym, ap, subst, arith}
 use Rattle.std.proofs.Math.Seq.{drop-cons}
 use Rattle.std.proofs.lemmas.List.{get_or-map, get_or-take, length-append, length-map, length-take}
 use Rattle.std.proofs.lemmas.List.Elements.{All-get_or}
@@ -29,24 +29,29 @@ use Rattle.fz_model.specs.State.{Map, Object}
 use Rattle.fz_machine.specs.declared.item.Item.{Item}
 use Rattle.fz_machine.specs.declared.phase.Phase.{Phase}
 use Rattle.fz_machine.specs.declared.phase.Sweep.{Sweep}
+use Rattle.fz_pass.specs.Marks.{IsClosed}
+use Rattle.fz_finalizers.specs.declared.passes.Passed.{Passed}
+use Rattle.fz_machine.specs.declared.pass.Step.{Step}
+use Rattle.fz_machine.specs.declared.pass.Step.TheVariants as steps
 use Rattle.fz_machine.specs.declared.pass.Next.{Next}
 use Rattle.fz_machine.specs.declared.pass.Next.TheVariants.{Asks}
 use Rattle.fz_machine.specs.declared.question.Ask.{Ask}
 use Rattle.fz_machine.specs.declared.question.Question.{Question}
 use Rattle.fz_machine.specs.Asks.{bits_of}
-use Rattle.fz_machine.specs.Graph.{AreHonestWords, Graph, IsHonest, IsTrueWord, MayAsk, MayBeAsked}
+use Rattle.fz_machine.specs.Graph.{AreHonestWords, Graph, IsHonest, IsTrueWord, MayAsk, MayBeAsked, MayBegin}
 use Rattle.fz_machine.specs.Graph as graph
-use Rattle.fz_machine.specs.Machines.{Answers, AsksItems, AsksRegions, GoesTo, Heard, IsBegunFrom, Machine, PassesOver, Tells, Words, Works, going_of, heard_by, questions_left}
+use Rattle.fz_machine.specs.Machines.{Answers, AsksItems, AsksRegions, GoesTo, Heard, IsBegun, IsBegunFrom, Machine, PassesOver, Tells, Words, Works, going_of, heard_by, next_of, questions_left}
 use Rattle.fz_machine.specs.Machines as machines
 use Rattle.fz_machine.specs.Regions.{IsOfSweep}
 use Rattle.fz_machine.specs.Responds.{Advances, IsAbout, Responds}
 use Rattle.fz_machine.specs.Phases.{after, ask_of, asks, is_known, subject}
-use Rattle.fz_machine.specs.Runs.{AreAskable, AreHonest, IsTrueOf, MakesPass}
+use Rattle.fz_machine.specs.Runs.{AreAskable, AreHonest, IsTrueOf, MakesPass, Runs}
 use Rattle.fz_machine.specs.Steps.{IsQuestion}
 use Rattle.fz_machine.proofs.Due.{both_kinds}
 use Rattle.fz_machine.proofs.Fewer.{IsFit, answers_less, asked_for, sized, to_come_at, words_less}
 use Rattle.fz_machine.proofs.Masked.{bits_taken}
 use Rattle.fz_machine.proofs.Places.{set_here, set_other}
+use Rattle.fz_machine.proofs.Ran.{makes_pass, none_old}
 use Rattle.fz_machine.proofs.Throughout.{goes_keep, heard_keeps}
 use Rattle.fz_machine.proofs.Working.{apart, by_change, work_apart}
 
@@ -362,3 +367,30 @@ module _ (s : State) (made : ∥ ((past : Past) × IsReached s past) ∥₁) whe
 
   pub made_single : AreSingle s
   made_single word short long here there = ∥∥₁_elim made (λ x y. absurd x) (λ (past, reached). single s past reached word short long here there)
+
+-- ---- the end of a pass
+
+pub record PassEnds (E : Type 0) (place : ℕ → Option ℕ) (value : Map Object → ℕ → Option ℕ) (old new : Machine) (before after : Graph) (passed : Passed) : Type 0 where
+  pub passes : PassesWhole E place value old.finalizers.state before.objects before.marked new.finalizers.state after.objects after.marked
+  pub idle : new.phase ≡ None
+  pub pass : passed.pass ≡ next_pass old.finalizers.passes
+  pub picked : length new.finalizers.queue ≡ length old.finalizers.queue + passed.picked
+  pub marks : (a : ℕ) → IsTrue (before.marked a) → IsTrue (after.marked a)
+  pub closed : IsClosed after.objects after.marked
+
+pub pass_ends : (E : Type 0) (place : ℕ → Option ℕ) (value : Map Object → ℕ → Option ℕ) (old begun new : Machine) (before after : Graph) (step : Step) (passed : Passed) (about : List ℕ) → ∥ ((past : Past) × IsReached old.finalizers.state past) ∥₁ → IsBegun old begun
+    → MayBegin place value old.finalizers.state before → Runs E place value begun before new after → step ≡ steps.Ended passed → Tells new (next_of step about) → new.before ≡ length old.finalizers.queue
+    → IsAlone (record old.finalizers.state { passes = next_pass old.finalizers.passes }) new.finalizers.state → PassEnds E place value old new before after passed
+pass_ends E place value old begun new before after step passed about made is may runs ended told count alone =
+    let tells : Tells new (next_of (steps.Ended passed) about) = subst (λ s. Tells new (next_of s about)) ended told in
+    let makes = makes_pass E place value 0 old begun new before after (made_flags old.finalizers.state made) (made_single old.finalizers.state made) is may (none_old old.finalizers.state before) runs tells.0 in
+    let picked : passed.picked ≡ length new.finalizers.queue - length old.finalizers.queue = tells.2 ∙ ap (λ n. length new.finalizers.queue - n) count in
+    let least = alone.queued in
+    record {
+      passes = passes_alone E place value old.finalizers.state new.finalizers.state before after makes alone.taken alone.held;
+      idle = tells.0;
+      pass = tells.1 ∙ alone.passes;
+      picked = omega (arith, picked, least);
+      marks = makes.marks;
+      closed = makes.closed;
+    }

@@ -172,7 +172,7 @@ fn register(rt: &impl Abort, both: &mut Both, id: RecordId, random: &mut Random)
         kind,
         procedure: random.below(100),
         client_data,
-        rank: random.below(3) as u8,
+        rank: u8::from(random.below(2) == 0),
     };
     if both.runtime.heap().stands(id) && both.asked.heap.stands(id) {
         let one = both.runtime.register(id, finalizer).expect(rt, "a number");
@@ -204,7 +204,7 @@ fn clean(rt: &impl Abort, both: &mut Both, id: RecordId, random: &mut Random) {
     let cleanup = Cleanup {
         procedure: random.below(100),
         client_data: 0,
-        rank: random.below(3) as u8,
+        rank: u8::from(random.below(2) == 0),
         when: kind_of(random),
     };
     if both.runtime.heap().stands(id) && both.asked.heap.stands(id) {

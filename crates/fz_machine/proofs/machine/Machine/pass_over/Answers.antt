@@ -1,13 +1,12 @@
-use Rattle.std.proofs.Common.{◌≡◌, ◌∙◌, ◌-◌, [], Bool, List, length, take, refl, sym, ap, subst, arith}
+use Rattle.std.proofs.Common.{◌≡◌, ◌∙◌, [], Bool, List, take, refl, sym, ap, subst}
 use Rattle.fz_finalizers.specs.Follows.{next_pass}
-use Rattle.fz_machine.specs.declared.pass.Step.TheVariants as steps
 use Rattle.fz_machine.specs.Asks.{bits_of}
 use Rattle.fz_machine.specs.Graph.{graph_of}
-use Rattle.fz_machine.specs.Machines.{Answers, Tells, next_of}
+use Rattle.fz_machine.specs.Machines.{Answers, next_of}
 use Rattle.fz_machine.specs.Runs.{AreHonest, Begun, Goes}
 use Rattle.fz_machine.proofs.Askable.{asks_on}
-use Rattle.fz_machine.proofs.Ran.{makes_pass, none_old}
-use Rattle.fz_machine.proofs.Truly.{IsAlone, fits_asked, fits_begun, goes_alone, itself_alone, leaves_less, made_flags, made_single, passes_alone}
+use Rattle.fz_machine.proofs.Ran.{none_old}
+use Rattle.fz_machine.proofs.Truly.{IsAlone, fits_asked, fits_begun, goes_alone, itself_alone, leaves_less, made_flags, made_single, pass_ends}
 use Rattle.fz_machine.proofs.machine.Machine.pass_over.Goals as goal
 
 pub loop-step-init : goal.loop-step-init
@@ -58,26 +57,32 @@ loop-step-preserved g c =
       same = g.met.H.Host.transitive c.args.host.now c.loop-step.host c.answer.new.host c.loop-step.invariant.same c.answer.ensures.same;
     }
 
-pub returns-in-Ended : goal.returns-in-Ended
-returns-in-Ended g c =
-    let first = graph_of (g.H.Host.objects c.args.host.now) (g.H.Host.marked c.args.host.now) in
-    let now = graph_of (g.H.Host.objects c.loop-step.host) (g.H.Host.marked c.loop-step.host) in
-    let old = c.args.self.now in
-    let new = c.loop-step.self in
-    let (begun, is, runs) = c.loop-step.invariant.begun in
-    let tells : Tells new (next_of (steps.Ended c.in-Ended.passed) c.loop-step.about) = subst (λ step. Tells new (next_of step c.loop-step.about)) c.in-Ended.is c.loop-step.invariant.tells in
-    let alone = c.loop-step.invariant.alone in
-    let makes = makes_pass g.H.Host.is_exact g.H.Host.place g.H.Values.value 0 old begun new first now (made_flags old.finalizers.state c.requires.reached) (made_single old.finalizers.state c.requires.reached) is c.requires.begin (none_old old.finalizers.state first) runs tells.0 in
-    let picked : c.in-Ended.passed.picked ≡ length new.finalizers.queue - length old.finalizers.queue = tells.2 ∙ ap (λ n. length new.finalizers.queue - n) c.loop-step.invariant.before in
-    let least = alone.queued in
-    record {
-      judged = c.in_ok-begin.ensures.judged;
-      refused = tt;
-      passes = passes_alone g.H.Host.is_exact g.H.Host.place g.H.Values.value old.finalizers.state new.finalizers.state first now makes alone.taken alone.held;
-      idle = tells.0;
-      pass = tells.1 ∙ alone.passes;
-      picked = omega (arith, picked, least);
-      marks = makes.marks;
-      closed = makes.closed;
-      same = c.loop-step.invariant.same;
-    }
+pub returns-in-Ended-clause-passes : goal.returns-in-Ended-clause-passes
+returns-in-Ended-clause-passes g c =
+    (pass_ends g.H.Host.is_exact g.H.Host.place g.H.Values.value c.args.self.now c.loop-step.invariant.begun.0 c.loop-step.self (graph_of (g.H.Host.objects c.args.host.now) (g.H.Host.marked c.args.host.now)) (graph_of (g.H.Host.objects c.loop-step.host) (g.H.Host.marked c.loop-step.host))
+    c.loop-step.step c.in-Ended.passed c.loop-step.about c.requires.reached c.loop-step.invariant.begun.1 c.requires.begin c.loop-step.invariant.begun.2 c.in-Ended.is c.loop-step.invariant.tells c.loop-step.invariant.before c.loop-step.invariant.alone).passes
+
+pub returns-in-Ended-clause-idle : goal.returns-in-Ended-clause-idle
+returns-in-Ended-clause-idle g c =
+    (pass_ends g.H.Host.is_exact g.H.Host.place g.H.Values.value c.args.self.now c.loop-step.invariant.begun.0 c.loop-step.self (graph_of (g.H.Host.objects c.args.host.now) (g.H.Host.marked c.args.host.now)) (graph_of (g.H.Host.objects c.loop-step.host) (g.H.Host.marked c.loop-step.host))
+    c.loop-step.step c.in-Ended.passed c.loop-step.about c.requires.reached c.loop-step.invariant.begun.1 c.requires.begin c.loop-step.invariant.begun.2 c.in-Ended.is c.loop-step.invariant.tells c.loop-step.invariant.before c.loop-step.invariant.alone).idle
+
+pub returns-in-Ended-clause-pass : goal.returns-in-Ended-clause-pass
+returns-in-Ended-clause-pass g c =
+    (pass_ends g.H.Host.is_exact g.H.Host.place g.H.Values.value c.args.self.now c.loop-step.invariant.begun.0 c.loop-step.self (graph_of (g.H.Host.objects c.args.host.now) (g.H.Host.marked c.args.host.now)) (graph_of (g.H.Host.objects c.loop-step.host) (g.H.Host.marked c.loop-step.host))
+    c.loop-step.step c.in-Ended.passed c.loop-step.about c.requires.reached c.loop-step.invariant.begun.1 c.requires.begin c.loop-step.invariant.begun.2 c.in-Ended.is c.loop-step.invariant.tells c.loop-step.invariant.before c.loop-step.invariant.alone).pass
+
+pub returns-in-Ended-clause-picked : goal.returns-in-Ended-clause-picked
+returns-in-Ended-clause-picked g c =
+    (pass_ends g.H.Host.is_exact g.H.Host.place g.H.Values.value c.args.self.now c.loop-step.invariant.begun.0 c.loop-step.self (graph_of (g.H.Host.objects c.args.host.now) (g.H.Host.marked c.args.host.now)) (graph_of (g.H.Host.objects c.loop-step.host) (g.H.Host.marked c.loop-step.host))
+    c.loop-step.step c.in-Ended.passed c.loop-step.about c.requires.reached c.loop-step.invariant.begun.1 c.requires.begin c.loop-step.invariant.begun.2 c.in-Ended.is c.loop-step.invariant.tells c.loop-step.invariant.before c.loop-step.invariant.alone).picked
+
+pub returns-in-Ended-clause-marks : goal.returns-in-Ended-clause-marks
+returns-in-Ended-clause-marks g c =
+    (pass_ends g.H.Host.is_exact g.H.Host.place g.H.Values.value c.args.self.now c.loop-step.invariant.begun.0 c.loop-step.self (graph_of (g.H.Host.objects c.args.host.now) (g.H.Host.marked c.args.host.now)) (graph_of (g.H.Host.objects c.loop-step.host) (g.H.Host.marked c.loop-step.host))
+    c.loop-step.step c.in-Ended.passed c.loop-step.about c.requires.reached c.loop-step.invariant.begun.1 c.requires.begin c.loop-step.invariant.begun.2 c.in-Ended.is c.loop-step.invariant.tells c.loop-step.invariant.before c.loop-step.invariant.alone).marks
+
+pub returns-in-Ended-clause-closed : goal.returns-in-Ended-clause-closed
+returns-in-Ended-clause-closed g c =
+    (pass_ends g.H.Host.is_exact g.H.Host.place g.H.Values.value c.args.self.now c.loop-step.invariant.begun.0 c.loop-step.self (graph_of (g.H.Host.objects c.args.host.now) (g.H.Host.marked c.args.host.now)) (graph_of (g.H.Host.objects c.loop-step.host) (g.H.Host.marked c.loop-step.host))
+    c.loop-step.step c.in-Ended.passed c.loop-step.about c.requires.reached c.loop-step.invariant.begun.1 c.requires.begin c.loop-step.invariant.begun.2 c.in-Ended.is c.loop-step.invariant.tells c.loop-step.invariant.before c.loop-step.invariant.alone).closed
