@@ -9,7 +9,7 @@ use Rattle.fz_finalizers.specs.Promises.{IsReached, Past, Then}
 use Rattle.fz_finalizers.specs.States.{State, View}
 use Rattle.fz_machine.specs.declared.item.Item.{Item}
 use Rattle.fz_machine.specs.declared.phase.Phase.{Phase}
-use Rattle.fz_machine.specs.declared.phase.Phase.TheVariants.{Keys, KeysAgain, Holders, Values, Regions, ShortCleanups, ShortTargets, ShortWords, ShortKeys, ShortKeyWords, Objects, Children, Again, Picks, LateAgain, LatePicks, LongTargets, LongWords, LongKeys, LongKeyWords, ShortHolders, LongHolders, ShortKeyHolders, LongKeyHolders, LongCleanups}
+use Rattle.fz_machine.specs.declared.phase.Phase.TheVariants.{Keys, KeysAgain, Holders, Values, Regions, ShortCleanups, ShortTargets, ShortWords, ShortKeys, ShortKeyWords, Objects, Children, Again, Picks, Entries, LateAgain, LatePicks, LongTargets, LongWords, LongKeys, LongKeyWords, ShortHolders, LongHolders, ShortKeyHolders, LongKeyHolders, LongCleanups}
 use Rattle.fz_machine.specs.Heard.{Abandons, Hearing, IsCalled, Opens, PassesAreCalls, Tells}
 use Rattle.fz_machine.specs.Machines.{Machine, going_of, heard_by}
 use Rattle.fz_machine.specs.Phases.{after, without_key}
@@ -48,7 +48,8 @@ module _ (past : Past) (s : State) (c : IsCalled past s) where
   called Objects item answer = c
   called Children item answer = c
   called Again item answer = c
-  called Picks item answer = cases (is_late item.kind) s (queued_object s item.object) c (queued item.object)
+  called Picks item answer = c
+  called Entries item answer = cases (is_late item.kind) s (queued_object s item.object) c (queued item.object)
   called LateAgain item answer = c
   called LatePicks item answer = queued item.object
   called LongTargets item answer = c

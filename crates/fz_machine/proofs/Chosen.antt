@@ -43,20 +43,26 @@ module _ (E : Type 0) (clear : Map Object) (table : Content) (marked : ℕ → B
     pub most : E → (a : ℕ) → IsTrue (h.marked a) → IsTrue (marked a) ⊎ AreReached clear table.registrations skip a
     pub rest : (a : ℕ) (r : Registration) → get table.registrations a ≡ Some r → skip a ≡ false → (gone a ≡ true) ⊎ OneOf (λ (i : Item). i.object ≡ a) left
 
-  pub choosing_begins : (left : List Item) (h : Graph) → h.objects ≡ clear → h.marked ≡ marked → IsClosed clear marked
+  -- what is to be picked may be marked already
+  pub choosing_from : (left : List Item) (h : Graph) → h.objects ≡ clear → IsClosed clear h.marked → ((a : ℕ) → IsTrue (marked a) → IsTrue (h.marked a)) → (E → (a : ℕ) → IsTrue (h.marked a) → IsTrue (marked a) ⊎ AreReached clear table.registrations skip a)
       → ((a : ℕ) (r : Registration) → get table.registrations a ≡ Some r → skip a ≡ false → OneOf (λ (i : Item). i.object ≡ a) left) → AreChosen table [] left h
-  choosing_begins left h objects same closed listed = record {
+  choosing_from left h objects closed least most listed = record {
     gone = λ a. false;
     objects = objects;
     are = picks_none clear (λ a. false) table [] (λ a on. true≢false (sym on));
     was = λ a on. absurd (true≢false (sym on));
     before = λ a r on. absurd (true≢false (sym on));
-    closed = subst (IsClosed clear) (sym same) closed;
-    least = λ a on. subst (λ (m : ℕ → Bool). IsTrue (m a)) (sym same) on;
+    closed = closed;
+    least = least;
     gained = λ o a on. absurd (true≢false (sym on));
-    most = λ exact a on. inl (subst (λ (m : ℕ → Bool). IsTrue (m a)) same on);
+    most = most;
     rest = λ a r here off. inr (listed a r here off);
   }
+
+  pub choosing_begins : (left : List Item) (h : Graph) → h.objects ≡ clear → h.marked ≡ marked → IsClosed clear marked
+      → ((a : ℕ) (r : Registration) → get table.registrations a ≡ Some r → skip a ≡ false → OneOf (λ (i : Item). i.object ≡ a) left) → AreChosen table [] left h
+  choosing_begins left h objects same closed listed =
+      choosing_from left h objects (subst (IsClosed clear) (sym same) closed) (λ a on. subst (λ (m : ℕ → Bool). IsTrue (m a)) (sym same) on) (λ exact a on. inl (subst (λ (m : ℕ → Bool). IsTrue (m a)) same on)) listed
 
   -- an item is passed that isn't of the table
   pub chosen_on : (now : Content) (picks : List Pick) (left : List Item) (item : Item) (h : Graph) → skip item.object ≡ true → AreChosen now picks (item ∷ left) h → AreChosen now picks left h

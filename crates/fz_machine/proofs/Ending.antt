@@ -4,7 +4,7 @@ use Rattle.std.proofs.lemmas.Option.{none-some, same_Some}
 use Rattle.fz_machine.specs.declared.phase.Moment.{Moment}
 use Rattle.fz_machine.specs.declared.phase.Moment.TheVariants.{First, Led, Picked, Last}
 use Rattle.fz_machine.specs.declared.phase.Phase.{Phase}
-use Rattle.fz_machine.specs.declared.phase.Phase.TheVariants.{Keys, KeysAgain, Holders, Values, Regions, ShortCleanups, ShortTargets, ShortWords, ShortKeys, ShortKeyWords, Objects, Children, Again, Picks, LateAgain, LatePicks, LongTargets, LongWords, LongKeys, LongKeyWords, ShortHolders, LongHolders, ShortKeyHolders, LongKeyHolders, LongCleanups}
+use Rattle.fz_machine.specs.declared.phase.Phase.TheVariants.{Keys, KeysAgain, Holders, Values, Regions, ShortCleanups, ShortTargets, ShortWords, ShortKeys, ShortKeyWords, Objects, Children, Again, Picks, Entries, LateAgain, LatePicks, LongTargets, LongWords, LongKeys, LongKeyWords, ShortHolders, LongHolders, ShortKeyHolders, LongKeyHolders, LongCleanups}
 use Rattle.fz_machine.specs.declared.phase.Sweep.{Sweep}
 use Rattle.fz_machine.specs.declared.phase.Sweep.TheVariants as sweeps
 use Rattle.fz_machine.specs.declared.item.Item.{Item}
@@ -71,6 +71,7 @@ phases_left Objects off = 30
 phases_left Children off = 29
 phases_left Again off = 24
 phases_left Picks off = 23
+phases_left Entries off = 22
 phases_left LateAgain off = 18
 phases_left LatePicks off = 17
 phases_left LongTargets off = 11
@@ -120,7 +121,8 @@ fewer_left phase next off is = by phase (looks_again off) refl is
     by Objects more on same = to Objects Children same (omega arith)
     by Children more on same = to Children (Keys Led) same (omega arith)
     by Again more on same = to Again Picks same (omega arith)
-    by Picks more on same = to Picks (Keys Picked) same (omega arith)
+    by Picks more on same = to Picks Entries same (omega arith)
+    by Entries more on same = to Entries (Keys Picked) same (omega arith)
     by LateAgain more on same = to LateAgain LatePicks same (omega arith)
     by LatePicks more on same = to LatePicks (Keys Last) same (omega arith)
     by LongTargets more on same = to LongTargets LongWords same (omega arith)
@@ -153,6 +155,7 @@ settling_skips phase g on = by phase g.left on
     by Children (item ∷ xs) on = absurd (true≢false (sym on))
     by Again (item ∷ xs) on = absurd (true≢false (sym on))
     by Picks (item ∷ xs) on = absurd (true≢false (sym on))
+    by Entries (item ∷ xs) on = absurd (true≢false (sym on))
     by LateAgain (item ∷ xs) on = absurd (true≢false (sym on))
     by LatePicks (item ∷ xs) on = absurd (true≢false (sym on))
     by LongTargets (item ∷ xs) on = absurd (true≢false (sym on))
@@ -181,6 +184,7 @@ left_skipped Objects g = refl
 left_skipped Children g = refl
 left_skipped Again g = refl
 left_skipped Picks g = refl
+left_skipped Entries g = refl
 left_skipped LateAgain g = refl
 left_skipped LatePicks g = refl
 left_skipped LongTargets g = refl
@@ -230,7 +234,8 @@ follows_on phase next more is = by phase more is
     by Objects more is = to Children false is refl
     by Children more is = to (Keys Led) false is refl
     by Again more is = to Picks false is refl
-    by Picks more is = to (Keys Picked) false is refl
+    by Picks more is = to Entries false is refl
+    by Entries more is = to (Keys Picked) false is refl
     by LateAgain more is = to LatePicks false is refl
     by LatePicks more is = to (Keys Last) false is refl
     by LongTargets more is = to LongWords false is refl

@@ -1,7 +1,8 @@
 -- Each answer that is heard leaves fewer to come.
-use Rattle.std.proofs.Common.{◌≡◌, ◌≤◌, ◌<◌, ◌+◌, ◌-◌, ◌*◌, ◌&&◌, ◌++◌, ◌∷◌, ◌∙◌, [], ℕ, zero, suc, Bool, true, false, not, cond, refl, filter, get_or, nat_le, ◌⊎◌, ⊎_elim, List, length, map, Option, Some, None, inl, inr, sym, ap, subst, is_some, length-append, add-mul, mul-add, arith}
+use Rattle.std.proofs.Common.{◌≡◌, ◌≤◌, ◌<◌, ◌+◌, ◌-◌, ◌*◌, ◌&&◌, ◌++◌, ◌∷◌, ◌∙◌, [], ℕ, zero, suc, Bool, true, false, not, cond, refl, filter, get_or, nat_le, ◌⊎◌, ⊎_elim, List, All, length, map, take, Option, Some, None, inl, inr, sym, ap, subst, is_some, length-append, add-mul, mul-add, arith}
 use Rattle.std.proofs.lemmas.Bool.{and_parts, true≢false}
 use Rattle.std.proofs.lemmas.List.{length-map}
+use Rattle.std.proofs.lemmas.List.Elements.{All-head}
 use Rattle.std.proofs.lemmas.Option.{none-some, same_Some}
 use Rattle.std.proofs.lemmas.List.Sorted.{length_permutation}
 use Rattle.std.specs.FinMap.{len, remove}
@@ -23,16 +24,18 @@ use Rattle.fz_machine.specs.declared.pass.Next.TheVariants as told
 use Rattle.fz_machine.specs.declared.phase.Phase.{Phase}
 use Rattle.fz_machine.specs.declared.phase.Moment.{Moment}
 use Rattle.fz_machine.specs.declared.phase.Moment.TheVariants.{First, Led, Picked, Last}
-use Rattle.fz_machine.specs.declared.phase.Phase.TheVariants.{Keys, KeysAgain, Holders, Values, Regions, ShortCleanups, ShortTargets, ShortWords, ShortKeys, ShortKeyWords, Objects, Children, Again, Picks, LateAgain, LatePicks, LongTargets, LongWords, LongKeys, LongKeyWords, ShortHolders, LongHolders, ShortKeyHolders, LongKeyHolders, LongCleanups}
+use Rattle.fz_machine.specs.declared.phase.Phase.TheVariants.{Keys, KeysAgain, Holders, Values, Regions, ShortCleanups, ShortTargets, ShortWords, ShortKeys, ShortKeyWords, Objects, Children, Again, Picks, Entries, LateAgain, LatePicks, LongTargets, LongWords, LongKeys, LongKeyWords, ShortHolders, LongHolders, ShortKeyHolders, LongKeyHolders, LongCleanups}
 use Rattle.fz_machine.specs.declared.phase.Sweep.{Sweep}
 use Rattle.fz_machine.specs.declared.phase.Sweep.TheVariants as sweeps
+use Rattle.fz_machine.specs.declared.question.Ask.{Ask}
+use Rattle.fz_machine.specs.declared.question.Question.{Question}
 use Rattle.fz_machine.specs.Heard.{Begun, Goes, Hears, Learns, Meanwhile, PassesEnd, Told}
 use Rattle.fz_machine.specs.Items.{AreCleanups, AreEntriesOf, AreEphemerons, AreLinks, AreObjects, is_still, of_cleanup, of_link, of_stored, target_of, word_of}
 use Rattle.fz_machine.specs.Machines.{Answers, GoesTo, IsBegunFrom, IsTold, IsWorked, Machine, Tells, TellsIn, Words, going_of, heard_by}
 use Rattle.fz_machine.specs.Off.{PutOff, TellsOff, all_off, looked_at, looking, looks_again, none_off, put_off, stuck_with}
 use Rattle.fz_machine.specs.Phases.{Lists, after, aside_in, asks, behind, given, keeps, next_phase, off_in, swept}
 use Rattle.fz_machine.specs.Regions.{is_marked, is_unmarked}
-use Rattle.fz_machine.specs.Steps.{Asks, Begins, Ends, Going, GoesOn, Sweeps, Turns, skip, skipped, step, stepped, steps}
+use Rattle.fz_machine.specs.Steps.{Asks, Begins, Ends, Going, GoesOn, IsQuestion, Sweeps, Turns, skip, skipped, step, stepped, steps}
 use Rattle.fz_machine.proofs.Phasing.{kept_on}
 use Rattle.fz_machine.proofs.Due.{HasOf, both_kinds, fewer_of}
 use Rattle.fz_machine.proofs.Delayed.{all_with, tells_moves}
@@ -247,6 +250,32 @@ fewer_young p (x ∷ xs) = by (p x) (fewer_young p xs)
     by true le = omega (arith, le)
     by false le = omega (arith, le)
 
+-- whether a phase asks: one only queues
+abbrev pub cost_each : Phase → ℕ
+cost_each Entries = 0
+cost_each phase = 1
+
+-- where there are answers, it does
+abbrev pub CostsIfAny : List Bool → Phase → Type 0
+CostsIfAny answers phase = 0 < length answers → cost_each phase ≡ 1
+
+costs_item : (phase : Phase) (item : Item) (ask : Ask) → asks phase item ≡ Some ask → cost_each phase ≡ 1
+costs_item Entries item ask is = absurd (none-some ask is)
+costs_item phase item ask is = refl
+
+costs_question : (phase : Phase) (left : List Item) (q : Question) → IsQuestion phase left q → cost_each phase ≡ 1
+costs_question phase [] q is = let some = is.some in let within = is.within in absurd (omega (arith, some, within))
+costs_question phase (item ∷ left) q is = by q.count is.some is.alike
+  where
+    by : (n : ℕ) → 0 < n → All (λ i. asks phase i ≡ Some q.ask) (take n (item ∷ left)) → cost_each phase ≡ 1
+    by zero some alike = absurd (omega (arith, some))
+    by (suc n) some alike = costs_item phase item q.ask (All-head (λ i. asks phase i ≡ Some q.ask) item (take n left) alike)
+
+pub costs_told : (m : Machine) (next : Next) → Tells m next → (p : Phase) → m.phase ≡ Some p → cost_each p ≡ 1
+costs_told m (told.Asks question) (phase, was, inl items) p at = ap cost_each (sym (same_Some phase p (sym was ∙ at))) ∙ costs_question phase m.walk.left question items.question
+costs_told m (told.Asks question) (phase, was, inr regions) p at = ap cost_each (sym (same_Some phase p (sym was ∙ at)) ∙ regions.is)
+costs_told m (told.Ended passed) (none, same, picked) p at = absurd (none-some p (sym none ∙ at))
+
 some_left : (xs ys : List Item) (x : Item) → xs ≡ x ∷ ys → 0 < length xs
 some_left xs ys x is = let long = ap length is in omega (arith, long)
 
@@ -400,6 +429,7 @@ module _ (budget : Sweep → ℕ) (es el : ℕ) where
   to_come (Some Children) kept left aside off = 5 * left + 4 * kept + (when_led off.rows + later)
   to_come (Some Again) kept left aside off = 4 * left + 3 * kept + (when_picked off.rows + later)
   to_come (Some Picks) kept left aside off = 3 * left + 2 * kept + (when_picked off.rows + later)
+  to_come (Some Entries) kept left aside off = 2 * left + 2 * kept + (when_picked off.rows + later)
   to_come (Some LateAgain) kept left aside off = 2 * left + kept + (when_last off.rows + later)
   to_come (Some LatePicks) kept left aside off = left + (when_last off.rows + later)
   to_come (Some LongTargets) kept left aside off = 2 * left + kept + (budget sweeps.LongHolders + budget sweeps.ShortHolders + 4 * off.rows + budget sweeps.LongCleanups)
@@ -420,7 +450,7 @@ module _ (budget : Sweep → ℕ) (es el : ℕ) where
   one_more false n = omega arith
 
   fewer : (phase : Phase) (item : Item) (answer : Bool) (kept left aside : ℕ) (off : PutOff)
-      → to_come (Some phase) (one_if (keeps phase item answer) kept) left aside (size_of (put_off phase item answer off)) + 1 ≤ to_come (Some phase) kept (suc left) aside (size_of off)
+      → to_come (Some phase) (one_if (keeps phase item answer) kept) left aside (size_of (put_off phase item answer off)) + cost_each phase ≤ to_come (Some phase) kept (suc left) aside (size_of off)
   fewer (Keys moment) item answer kept left aside off = let few = keys_fewer (weight moment) kept left off item answer in omega (arith, few)
   fewer (KeysAgain moment) item answer kept left aside off = let few = keys_fewer (weight moment) kept left off item answer in omega (arith, few)
   fewer (Holders moment) item answer kept left aside off = let few = holders_fewer (weight moment) kept left off item answer in omega (arith, few)
@@ -435,6 +465,7 @@ module _ (budget : Sweep → ℕ) (es el : ℕ) where
   fewer Children item answer kept left aside off = let le = one_more (keeps Children item answer) kept in omega (arith, le)
   fewer Again item answer kept left aside off = let le = one_more (keeps Again item answer) kept in omega (arith, le)
   fewer Picks item answer kept left aside off = let le = one_more (keeps Picks item answer) kept in omega (arith, le)
+  fewer Entries item answer kept left aside off = let le = one_more (keeps Entries item answer) kept in omega (arith, le)
   fewer LateAgain item answer kept left aside off = let le = one_more (keeps LateAgain item answer) kept in omega (arith, le)
   fewer LatePicks item answer kept left aside off = let le = one_more (keeps LatePicks item answer) kept in omega (arith, le)
   fewer LongTargets item answer kept left aside off = let le = one_more (keeps LongTargets item answer) kept in omega (arith, le)
@@ -458,20 +489,21 @@ module _ (budget : Sweep → ℕ) (es el : ℕ) where
 
   module _ (phase : Phase) where
     past_fewer : (item : Item) (answer : Bool) (t : State) (kept left aside : List Item) (off : PutOff) (told : List (ℕ × ℕ))
-        → to_come_in (Some phase) (past_one phase item answer t kept left aside off told) + 1 ≤ to_come (Some phase) (length kept) (suc (length left)) (length aside) (size_of off)
+        → to_come_in (Some phase) (past_one phase item answer t kept left aside off told) + cost_each phase ≤ to_come (Some phase) (length kept) (suc (length left)) (length aside) (size_of off)
     past_fewer item answer t kept left aside off told =
-        subst (λ k. to_come (Some phase) k (length left) (length aside) (size_of (put_off phase item answer off)) + 1 ≤ to_come (Some phase) (length kept) (suc (length left)) (length aside) (size_of off)) (sym (long_on (keeps phase item answer) kept item))
+        subst (λ k. to_come (Some phase) k (length left) (length aside) (size_of (put_off phase item answer off)) + cost_each phase ≤ to_come (Some phase) (length kept) (suc (length left)) (length aside) (size_of off)) (sym (long_on (keeps phase item answer) kept item))
         (fewer phase item answer (length kept) (length left) (length aside) off)
 
-    pub steps_fewer : (answers : List Bool) (t : State) (kept left aside : List Item) (off : PutOff) (told : List (ℕ × ℕ)) → length answers ≤ length left
+    pub steps_fewer : (answers : List Bool) (t : State) (kept left aside : List Item) (off : PutOff) (told : List (ℕ × ℕ)) → length answers ≤ length left → CostsIfAny answers phase
         → length answers + to_come_in (Some phase) (steps phase answers (at t kept left aside off told)) ≤ to_come (Some phase) (length kept) (length left) (length aside) (size_of off)
-    steps_fewer [] t kept left aside off told few = omega arith
-    steps_fewer (answer ∷ answers) t kept [] aside off told few = absurd (omega (arith, few))
-    steps_fewer (answer ∷ answers) t kept (item ∷ left) aside off told few =
+    steps_fewer [] t kept left aside off told few costs = omega arith
+    steps_fewer (answer ∷ answers) t kept [] aside off told few costs = absurd (omega (arith, few))
+    steps_fewer (answer ∷ answers) t kept (item ∷ left) aside off told few costs =
         let k = past_one phase item answer t kept left aside off told in
-        let rest = steps_fewer answers k.finalizers k.kept left aside k.off told (omega (arith, few)) in
+        let each = costs (omega arith) in
+        let rest = steps_fewer answers k.finalizers k.kept left aside k.off told (omega (arith, few)) (λ some. each) in
         let one = past_fewer item answer t kept left aside off told in
-        omega (arith, rest, one)
+        omega (arith, rest, one, each)
 
     abbrev IsPast : Going → ℕ → Type 0
     IsPast k n = to_come_in (Some phase) k ≤ n
@@ -588,10 +620,11 @@ module _ (budget : Sweep → ℕ) (es el : ℕ) where
     turns_fewer ShortWords kept aside off = λ items enough is. let few = still_few (is_still (Some Short) t.ephemerons) items off is in omega (arith, few)
     turns_fewer ShortKeys kept aside off = λ items enough is. let same = ap length is in omega (arith, same)
     turns_fewer ShortKeyWords kept aside off = λ items enough is. let none = sweep_turn sweeps.Objects (length (all_off off)) items is in omega (arith, none)
-    turns_fewer Objects kept aside off = λ items enough is. let same = ap length is in omega (arith, same)
+    turns_fewer Objects kept aside off = λ items enough grouped. let same = length_permutation kept items grouped.0 in omega (arith, same)
     turns_fewer Children kept aside off = λ items enough is. let few = still_begin 5 (is_still None t.ephemerons) items off is in omega (arith, few)
-    turns_fewer Again kept aside off = λ items enough turned. let same = length_permutation kept items turned.0 in omega (arith, same)
-    turns_fewer Picks kept aside off = λ items enough is. let few = still_begin 3 (is_still None t.ephemerons) items off is in omega (arith, few)
+    turns_fewer Again kept aside off = λ items enough is. let same = ap length is in omega (arith, same)
+    turns_fewer Picks kept aside off = λ items enough turned. let same = length_permutation kept items turned.0 in omega (arith, same)
+    turns_fewer Entries kept aside off = λ items enough is. let few = still_begin 3 (is_still None t.ephemerons) items off is in omega (arith, few)
     turns_fewer LateAgain kept aside off = λ items enough is. let same = ap length is in omega (arith, same)
     turns_fewer LatePicks kept aside off = λ items enough is. let few = still_begin 1 (is_still None t.ephemerons) items off is in omega (arith, few)
     turns_fewer LongTargets kept aside off = λ items enough is. let same = ap length is in omega (arith, same)
@@ -681,6 +714,7 @@ module _ (budget : Sweep → ℕ) (es el : ℕ) where
   pub record IsHearing (n : ℕ) (m : Machine) : Type 0 where
     pub few : n + to_come_at m ≤ all_to_come
     pub asked : (p : Phase) → m.phase ≡ Some p → m.asked ≤ length m.walk.left
+    pub costs : (p : Phase) → m.phase ≡ Some p → cost_each p ≡ 1
     pub some : (moment : Moment) → m.phase ≡ Some (Values moment) → 0 < length m.walk.left
 
   pub asked_for : (m : Machine) (next : Next) → Tells m next → (p : Phase) → m.phase ≡ Some p → m.asked ≤ length m.walk.left
@@ -718,6 +752,7 @@ module _ (budget : Sweep → ℕ) (es el : ℕ) where
       record {
         few = omega (arith, so_far, less);
         asked = asked_for m next tells;
+        costs = costs_told m next tells;
         some = λ moment here. stops phase k m.phase (record (going_of m) { finalizers = t }) goes moment here;
       }
 
@@ -725,13 +760,14 @@ module _ (budget : Sweep → ℕ) (es el : ℕ) where
       → (goes : GoesOn from phase k m.phase (record (going_of m) { finalizers = t })) → AreFewListed phase k m.phase (record (going_of m) { finalizers = t }) goes → Tells m next → IsHearing before old → IsHearing (before + n) m
   goes_few phase before old m n k t next at few goes listed tells was = hears_on phase before n old m k t next goes (goes_less phase old m n k t at few goes listed) tells was
 
-  pub answers_few : (phase : Phase) (answers : List Bool) (m : Machine) (t : State) → length answers ≤ length m.walk.left → length answers + to_come_in (Some phase) (steps phase answers (record (going_of m) { finalizers = t })) ≤ to_come_in (Some phase) (going_of m)
-  answers_few phase answers m t few = steps_fewer phase answers t m.walk.kept m.walk.left m.walk.aside m.walk.off m.told few
+  pub answers_few : (phase : Phase) (answers : List Bool) (m : Machine) (t : State) → length answers ≤ length m.walk.left → CostsIfAny answers phase → length answers + to_come_in (Some phase) (steps phase answers (record (going_of m) { finalizers = t })) ≤ to_come_in (Some phase) (going_of m)
+  answers_few phase answers m t few costs = steps_fewer phase answers t m.walk.kept m.walk.left m.walk.aside m.walk.off m.told few costs
 
   pub worked_few : (n : ℕ) (old m : Machine) → IsWorked old m → IsHearing n old → IsHearing n m
   worked_few n old m worked was = record {
     few = subst (λ (k : Machine). n + to_come_at k ≤ all_to_come) (sym worked.keeps) was.few;
     asked = λ p at. subst (λ (k : Machine). k.asked ≤ length k.walk.left) (sym worked.keeps) (was.asked p (sym (ap (λ (k : Machine). k.phase) worked.keeps) ∙ at));
+    costs = λ p at. was.costs p (sym (ap (λ (k : Machine). k.phase) worked.keeps) ∙ at);
     some = λ moment at. subst (λ xs. 0 < length xs) (sym (ap (λ (k : Machine). k.walk.left) worked.keeps)) (was.some moment (sym (ap (λ (k : Machine). k.phase) worked.keeps) ∙ at));
   }
 
@@ -742,6 +778,7 @@ module _ (budget : Sweep → ℕ) (es el : ℕ) where
       record {
         few = subst (λ (k : Machine). n + to_come_at k ≤ all_to_come) (sym tells.same) (omega (arith, so_far, less));
         asked = λ p at. subst (λ (k : Machine). k.asked ≤ length k.walk.left) (sym tells.same) (was.asked p (sym (ap (λ (k : Machine). k.phase) tells.same) ∙ at));
+        costs = λ p at. was.costs p (sym (ap (λ (k : Machine). k.phase) tells.same) ∙ at);
         some = λ moment at. subst (λ (k : Machine). 0 < length k.walk.left) (sym tells.same) (was.some moment (sym (ap (λ (k : Machine). k.phase) tells.same) ∙ at));
       }
 
@@ -768,6 +805,7 @@ module _ (budget : Sweep → ℕ) (es el : ℕ) where
             (subst (λ (k : Going). to_come_in (Some (Keys First)) k ≤ all_to_come)
             (λ i. record { finalizers = t; kept = sym is.begins.none i; left = begun.walk.left; aside = sym is.begins.aside i; off = sym is.begins.off i; told = begun.told }) first));
         asked = λ p at. let none = is.asked in omega (arith, none);
+        costs = λ p at. ap cost_each (sym (same_Some (Keys First) p (sym is.phase ∙ at)));
         some = λ moment at. absurd (not_values moment (sym is.phase ∙ at));
       }
 
@@ -834,14 +872,14 @@ module _ (r s g es el sc l : ℕ) where
   answers_on : (old m : Machine) (next : Next) (answers : List Bool) (goes : GoesTo old (Answers answers) m next) → GoesOn old.from goes.phase (steps goes.phase answers (going_of old)) m.phase (going_of m)
   answers_on old m next answers goes = subst (λ (x : Going). GoesOn old.from goes.phase x m.phase (going_of m)) (heard_answers goes.phase old.regions answers (going_of old)) goes.goes
 
-  pub answers_less : (old m : Machine) (next : Next) (answers : List Bool) → length answers ≤ length old.walk.left → IsFit old.finalizers.state → GoesTo old (Answers answers) m next → HasLess (length answers) old m
-  answers_less old m next answers few h goes =
+  pub answers_less : (old m : Machine) (next : Next) (answers : List Bool) → length answers ≤ length old.walk.left → ((p : Phase) → old.phase ≡ Some p → CostsIfAny answers p) → IsFit old.finalizers.state → GoesTo old (Answers answers) m next → HasLess (length answers) old m
+  answers_less old m next answers few costs h goes =
       let k : Going = steps goes.phase answers (going_of old) in
       let fit = steps_keep IsFit fit_still goes.phase answers (going_of old) h in
       let on = answers_on old m next answers goes in
       record {
         fit = goes_keep IsFit fit_still goes.phase k m.phase (going_of m) on fit;
-        less = goes_less sized es el goes.phase old m (length answers) k m.finalizers.state goes.was (answers_few sized es el goes.phase answers old old.finalizers.state few) on (few_listed goes.phase k m.phase (going_of m) on fit);
+        less = goes_less sized es el goes.phase old m (length answers) k m.finalizers.state goes.was (answers_few sized es el goes.phase answers old old.finalizers.state few (costs goes.phase goes.was)) on (few_listed goes.phase k m.phase (going_of m) on fit);
       }
 
   abbrev words_in : (old m : Machine) (next : Next) (words : List ℕ) → GoesTo old (Words words) m next → Going
@@ -868,7 +906,7 @@ module _ (r s g es el sc l : ℕ) where
   heard begun m n h (Goes {m = old} {next = next} {n = before} answers few goes hears) =
       let was = heard begun old before h hears in
       let asked = was.hears.asked goes.phase goes.was in
-      let has = answers_less old m next answers (omega (arith, few, asked)) was.fit goes in
+      let has = answers_less old m next answers (omega (arith, few, asked)) (λ p at some. was.hears.costs p at) was.fit goes in
       record { fit = has.fit; hears = hears_on sized es el goes.phase before (length answers) old m (steps goes.phase answers (going_of old)) m.finalizers.state next (answers_on old m next answers goes) has.less goes.tells was.hears }
   heard begun m n h (Learns {m = old} {next = next} {n = before} words goes hears) =
       let was = heard begun old before h hears in

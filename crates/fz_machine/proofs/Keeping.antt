@@ -23,7 +23,7 @@ use Rattle.fz_machine.specs.declared.item.Item.{Item}
 use Rattle.fz_machine.specs.declared.phase.Moment.{Moment}
 use Rattle.fz_machine.specs.declared.phase.Moment.TheVariants as moments
 use Rattle.fz_machine.specs.declared.phase.Phase.{Phase}
-use Rattle.fz_machine.specs.declared.phase.Phase.TheVariants.{Keys, KeysAgain, Holders, Values, Regions, ShortCleanups, ShortTargets, ShortWords, ShortKeys, ShortKeyWords, Objects, Children, Again, Picks, LateAgain, LatePicks, LongTargets, LongWords, LongKeys, LongKeyWords, ShortHolders, LongHolders, ShortKeyHolders, LongKeyHolders, LongCleanups}
+use Rattle.fz_machine.specs.declared.phase.Phase.TheVariants.{Keys, KeysAgain, Holders, Values, Regions, ShortCleanups, ShortTargets, ShortWords, ShortKeys, ShortKeyWords, Objects, Children, Again, Picks, Entries, LateAgain, LatePicks, LongTargets, LongWords, LongKeys, LongKeyWords, ShortHolders, LongHolders, ShortKeyHolders, LongKeyHolders, LongCleanups}
 use Rattle.fz_machine.specs.declared.question.Ask.TheVariants.{MarkAlone}
 use Rattle.fz_machine.specs.Graph.{Graph, IsHonest}
 use Rattle.fz_machine.specs.Items.{of_other, place_of}
@@ -37,8 +37,9 @@ use Rattle.fz_machine.proofs.Choosing.{marked_alone, marked_by_kind}
 use Rattle.fz_machine.proofs.Chosen.{chosen_again, chosen_more, chosen_on, no_more, place_in, still}
 use Rattle.fz_machine.proofs.Entered.{IsLate, IsLateAt, IsOfEither}
 use Rattle.fz_machine.proofs.Led.{lead_more}
-use Rattle.fz_machine.proofs.Phased.{IsIn, IsSettling, IsUnfound, LeadsOn, PickedBoth, PicksLate, PicksOn, after_picks, begun_with, clear, judged, keys_held, keys_left, long_held, long_keys_left, long_left, short_held, short_left}
+use Rattle.fz_machine.proofs.Phased.{EntersOn, IsIn, IsSettling, IsUnfound, IsUnled, LeadsOn, PickedBoth, PicksLate, PicksOn, after_picks, begun_with, clear, judged, keys_held, keys_left, long_held, long_keys_left, long_left, short_held, short_left}
 use Rattle.fz_machine.proofs.Phasing.{clears_on, holds_on, kept_on, sifts_on}
+use Rattle.fz_machine.proofs.Reaching.{AreReaching, reach_more, reach_none}
 use Rattle.fz_machine.proofs.DeadWords.{remove_none, retained_before, retained_none}
 use Rattle.fz_machine.proofs.Sifting.{IsAt}
 use Rattle.fz_machine.proofs.Stated.{queued_none, queued_on, state_with, tabled, with_keys}
@@ -80,29 +81,61 @@ module _ (E : Type 0) (word_of : ℕ → Option ℕ) (value : Map Object → ℕ
 
   -- ---- picks
 
-  module _ (s : State) (kept left : List Item) (item : Item) (h new : Graph) (p : PicksOn E word_of value b before s kept (item ∷ left) h) where
+  picks_on : (s : State) (kept left : List Item) (item : Item) (h new : Graph) → PicksOn E word_of value b before s kept (item ∷ left) h → (answer : Bool) → IsHonest E word_of value (pick_ask item.kind) item.object h answer new
+      → PicksOn E word_of value b before s (kept ++ item ∷ []) left new
+  picks_on s kept left item h new p answer honest = record {
+    leading = p.leading;
+    state = p.state;
+    are = by p.left_are.0.0;
+    kept_are = each_push (IsUnled E word_of value b before p.leading) kept item p.kept_are p.left_are.0;
+    left_are = p.left_are.1;
+    rest = λ object word at off. ⊎_elim (λ k. inl (one_left (IsAt object word) kept (item ∷ []) k)) (passed object word) (p.rest object word at off);
+  }
+    where
+      by : Either item → AreReaching E clearly b.registrations p.leading.led (skips false (contains b.late) p.leading.led) left new
+      by (inl (r, here, off, is)) =
+          let m = marked_by_kind E word_of value clearly item.object h new p.are.objects p.are.closed (registered E word_of value b before begin item.object r here) r.kind
+          (λ a leads. p.are.least a (others_led E word_of value b before begin p.leading item.object r here (ap not p.left_are.0.1) a leads)) answer
+          (subst (λ (k : Kind). IsHonest E word_of value (pick_ask k) item.object h answer new) (ap (λ (i : Item). i.kind) is) honest) in
+          reach_more E clearly b.registrations p.leading.led (skips false (contains b.late) p.leading.led) item left h new p.are r here (unskips false (contains b.late) p.leading.led item.object off p.left_are.0.1) m.0 m.1
+      by (inr late) =
+          reach_none E clearly b.registrations p.leading.led (skips false (contains b.late) p.leading.led) item left h new p.are (skips_flagged (contains b.late) p.leading.led item.object late.2)
+          (subst (λ (k : Kind). IsHonest E word_of value (pick_ask k) item.object h answer new) (ap (λ (i : Item). i.kind) late.3) honest)
+
+      passed : (object word : ℕ) → OneOf (IsAt object word) (item ∷ left) → OneOf (IsAt object word) (kept ++ item ∷ []) ⊎ OneOf (IsAt object word) left
+      passed object word (inl at) = inl (one_last (IsAt object word) kept item at)
+      passed object word (inr k) = inr k
+
+  -- ---- entries
+
+  module _ (s : State) (kept left : List Item) (item : Item) (h : Graph) (p : EntersOn E word_of value b before s kept (item ∷ left) h) where
     -- one that comes late waits
-    waits : Late item → new ≡ h → PicksOn E word_of value b before s (kept ++ item ∷ []) left new
-    waits late same = subst (λ (x : Graph). PicksOn E word_of value b before s (kept ++ item ∷ []) left x) (sym same) (record {
+    waits : Late item → EntersOn E word_of value b before s (kept ++ item ∷ []) left h
+    waits late = record {
       leading = p.leading;
       now = p.now;
       picks = p.picks;
       state = p.state;
       are = chosen_on E clearly (tabled b) p.leading.led false (contains b.late) 0 p.now p.picks left item h (skips_flagged (contains b.late) p.leading.led item.object late.2) p.are;
+      reached = p.reached;
       kept_are = each_push (λ i. Late i × (p.leading.led i.object ≡ false)) kept item p.kept_are (late, p.left_are.0.1);
       left_are = p.left_are.1;
       rest = λ object word at off. ⊎_elim (λ k. inl (one_left (IsAt object word) kept (item ∷ []) k)) (by object word) (p.rest object word at off);
       ordered = subst (AreInOrder place_of) (sym (append_assoc kept (item ∷ []) left)) p.ordered;
-    })
+    }
       where
         by : (object word : ℕ) → OneOf (IsAt object word) (item ∷ left) → OneOf (IsAt object word) (kept ++ item ∷ []) ⊎ OneOf (IsAt object word) left
         by object word (inl at) = inl (one_last (IsAt object word) kept item at)
         by object word (inr k) = inr k
 
-    -- another is picked
-    module _ (r : Registration) (here : get b.registrations item.object ≡ Some r) (off : contains b.late item.object ≡ false) (is : item ≡ of_other item.known (item.object, r)) (same : new.objects ≡ h.objects) (m : Marks E clearly h.marked new.marked (Leads clearly item.object)) where
+    -- another is queued
+    module _ (r : Registration) (here : get b.registrations item.object ≡ Some r) (off : contains b.late item.object ≡ false) (is : item ≡ of_other item.known (item.object, r)) where
       unskipped : skips false (contains b.late) p.leading.led item.object ≡ false
       unskipped = unskips false (contains b.late) p.leading.led item.object off p.left_are.0.1
+
+      -- it and all that it leads to are marked already
+      m : Marks E clearly h.marked h.marked (Leads clearly item.object)
+      m = record { closed = p.are.closed; least = λ a. ⊎_elim (λ on. on) (λ leads. p.reached item.object r here unskipped a leads); most = λ exact a on. inl on }
 
       place : place_of item ≡ place_in 0 item.object r
       place = ap place_of is ∙ (let added : r.rank * 2 ^ 64 + item.object ≡ (0 + r.rank) * 2 ^ 64 + item.object = omega arith in added)
@@ -114,22 +147,23 @@ module _ (E : Type 0) (word_of : ℕ → Option ℕ) (value : Map Object → ℕ
           by (inl here_at) = absurd (both_ways (contains b.late item.object) off (ap (contains b.late) here_at.0 ∙ at.1))
           by (inr k) = inr k
 
-      again : p.are.gone item.object ≡ true → PicksOn E word_of value b before (queued_object s item.object) kept left new
+      again : p.are.gone item.object ≡ true → EntersOn E word_of value b before (queued_object s item.object) kept left h
       again on = record {
         leading = p.leading;
         now = p.now;
         picks = p.picks;
         state = ap (λ t. queued_object t item.object) p.state
             ∙ queued_none keyed (short_left E word_of value b before) b.long p.now.registrations p.now.late p.picks item.object
-            (no_more E clearly (tabled b) p.leading.led false (contains b.late) 0 p.now p.picks item left h new p.are r here unskipped place on);
-        are = chosen_again E clearly (tabled b) p.leading.led false (contains b.late) 0 p.now p.picks item left h new p.are r here unskipped place same m on;
+            (no_more E clearly (tabled b) p.leading.led false (contains b.late) 0 p.now p.picks item left h h p.are r here unskipped place on);
+        are = chosen_again E clearly (tabled b) p.leading.led false (contains b.late) 0 p.now p.picks item left h h p.are r here unskipped place refl m on;
+        reached = p.reached;
         kept_are = p.kept_are;
         left_are = p.left_are.1;
         rest = others;
         ordered = order_without place_of kept item left p.ordered;
       }
 
-      now_picked : p.are.gone item.object ≡ false → PicksOn E word_of value b before (queued_object s item.object) kept left new
+      now_picked : p.are.gone item.object ≡ false → EntersOn E word_of value b before (queued_object s item.object) kept left h
       now_picked none =
           let object = is_some_of (get clearly item.object) (ap not (registered E word_of value b before begin item.object r here)) in
           record {
@@ -138,8 +172,9 @@ module _ (E : Type 0) (word_of : ℕ → Option ℕ) (value : Map Object → ℕ
             picks = p.picks ++ pick_of r item.object unknown ∷ [];
             state = ap (λ t. queued_object t item.object) p.state
                 ∙ queued_on keyed (short_left E word_of value b before) b.long p.now.registrations p.now.late p.picks item.object r
-                (still E clearly (tabled b) p.leading.led false (contains b.late) 0 p.now p.picks item left h new p.are r here unskipped place none);
-            are = chosen_more E clearly (tabled b) p.leading.led false (contains b.late) 0 p.now p.picks item left h new p.are r here unskipped place same m (starts E word_of value b before begin)
+                (still E clearly (tabled b) p.leading.led false (contains b.late) 0 p.now p.picks item left h h p.are r here unskipped place none);
+            reached = p.reached;
+            are = chosen_more E clearly (tabled b) p.leading.led false (contains b.late) 0 p.now p.picks item left h h p.are r here unskipped place refl m (starts E word_of value b before begin)
                 (order_after place_of kept item left p.ordered) object.0 object.1 (births E word_of value b before begin item.object object.0 object.1) none;
             kept_are = p.kept_are;
             left_are = p.left_are.1;
@@ -147,25 +182,19 @@ module _ (E : Type 0) (word_of : ℕ → Option ℕ) (value : Map Object → ℕ
             ordered = order_without place_of kept item left p.ordered;
           }
 
-      picked : (on : Bool) → p.are.gone item.object ≡ on → PicksOn E word_of value b before (queued_object s item.object) kept left new
+      picked : (on : Bool) → p.are.gone item.object ≡ on → EntersOn E word_of value b before (queued_object s item.object) kept left h
       picked true on = again on
       picked false none = now_picked none
 
-    picks_on : (answer : Bool) → IsHonest E word_of value (pick_ask item.kind) item.object h answer new
-        → PicksOn E word_of value b before (cond (is_late item.kind) s (queued_object s item.object)) (kept_on (is_late item.kind) kept item) left new
-    picks_on answer honest = by p.left_are.0.0
+    enters_on : (new : Graph) → new ≡ h → EntersOn E word_of value b before (cond (is_late item.kind) s (queued_object s item.object)) (kept_on (is_late item.kind) kept item) left new
+    enters_on new same =
+        subst (λ (x : Graph). EntersOn E word_of value b before (cond (is_late item.kind) s (queued_object s item.object)) (kept_on (is_late item.kind) kept item) left x) (sym same) (by p.left_are.0.0)
       where
-        by : Either item → PicksOn E word_of value b before (cond (is_late item.kind) s (queued_object s item.object)) (kept_on (is_late item.kind) kept item) left new
+        by : Either item → EntersOn E word_of value b before (cond (is_late item.kind) s (queued_object s item.object)) (kept_on (is_late item.kind) kept item) left h
         by (inl (r, here, off, is)) =
-            let kind = ap (λ (i : Item). i.kind) is in
-            let m = marked_by_kind E word_of value clearly item.object h new p.are.objects p.are.closed (registered E word_of value b before begin item.object r here) r.kind
-            (λ a leads. p.are.least a (others_led E word_of value b before begin p.leading item.object r here (ap not p.left_are.0.1) a leads)) answer
-            (subst (λ (k : Kind). IsHonest E word_of value (pick_ask k) item.object h answer new) kind honest) in
-            subst (λ late. PicksOn E word_of value b before (cond late s (queued_object s item.object)) (kept_on late kept item) left new) (sym (ap is_late kind ∙ not_late_kind r.kind)) (picked r here off is m.0 m.1 (p.are.gone item.object) refl)
+            subst (λ late. EntersOn E word_of value b before (cond late s (queued_object s item.object)) (kept_on late kept item) left h) (sym (ap is_late (ap (λ (i : Item). i.kind) is) ∙ not_late_kind r.kind)) (picked r here off is (p.are.gone item.object) refl)
         by (inr late) =
-            let kind = ap (λ (i : Item). i.kind) late.3 in
-            subst (λ (k : Kind). PicksOn E word_of value b before (cond (is_late k) s (queued_object s item.object)) (kept_on (is_late k) kept item) left new) (sym kind)
-            (waits late (subst (λ (k : Kind). IsHonest E word_of value (pick_ask k) item.object h answer new) kind honest))
+            subst (λ (k : Kind). EntersOn E word_of value b before (cond (is_late k) s (queued_object s item.object)) (kept_on (is_late k) kept item) left h) (sym (ap (λ (i : Item). i.kind) late.3)) (waits late)
 
   -- ---- picks of late ones
 
@@ -305,6 +334,7 @@ module _ (E : Type 0) (word_of : ℕ → Option ℕ) (value : Map Object → ℕ
   keep Children s kept left aside off item h new p answer honest = leads_on s kept left item h new p answer honest
   keep Again s kept left aside off item h new (l, p) answer honest = (l, sifts_on E word_of value _ _ _ _ _ s kept left item h new p answer honest)
   keep Picks s kept left aside off item h new p answer honest = picks_on s kept left item h new p answer honest
+  keep Entries s kept left aside off item h new p answer same = enters_on s kept left item h p new same
   keep LateAgain s kept left aside off item h new (c, p, ordered) answer honest = (c, sifts_on E word_of value _ _ _ _ _ s kept left item h new p answer honest, by answer)
     where
       by : (yes : Bool) → AreInOrder place_of (kept_on (not yes) kept item ++ left)

@@ -25,6 +25,7 @@ pub mod Entered
 pub mod Ordered
 pub mod Led
 pub mod Chosen
+pub mod Reaching
 pub mod Due
 pub mod Stated
 pub mod Phasing

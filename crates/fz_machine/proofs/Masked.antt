@@ -14,7 +14,7 @@ use Rattle.fz_machine.specs.declared.item.Item.{Item}
 use Rattle.fz_machine.specs.declared.phase.Phase.{Phase}
 use Rattle.fz_machine.specs.declared.question.Ask.{Ask}
 use Rattle.fz_machine.specs.declared.question.Ask.TheVariants.{IsMarked}
-use Rattle.fz_machine.specs.declared.phase.Phase.TheVariants.{Keys, KeysAgain, Holders, Values, ShortCleanups, ShortTargets, ShortKeys, Objects, Children, Again, LateAgain, LongTargets, LongKeys, ShortHolders, LongHolders, ShortKeyHolders, LongKeyHolders, LongCleanups}
+use Rattle.fz_machine.specs.declared.phase.Phase.TheVariants.{Keys, KeysAgain, Holders, Values, ShortCleanups, ShortTargets, ShortKeys, Objects, Children, Again, Picks, LateAgain, LongTargets, LongKeys, ShortHolders, LongHolders, ShortKeyHolders, LongKeyHolders, LongCleanups}
 use Rattle.fz_machine.specs.Asks.{bits_of}
 use Rattle.fz_machine.specs.Going.{HasRoomOff, IsSameRoom, going}
 use Rattle.fz_machine.specs.Off.{PutOff, put_off, stuck_with}
@@ -226,6 +226,7 @@ keeps_false phase on = absurd (true≢false (sym on))
 
 keeps_each : (phase : Phase) → keeps_all phase ≡ true → Chooses phase (λ (answer : Bool). true)
 keeps_each Children on = record { outside = refl; kept = λ item answer. refl; same = λ item answer s. refl; off = λ item answer o. refl }
+keeps_each Picks on = record { outside = refl; kept = λ item answer. refl; same = λ item answer s. refl; off = λ item answer o. refl }
 keeps_each phase on = absurd (true≢false (sym on))
 
 pub unsettled : (phase : Phase) → keeps_unmarked phase ≡ true → settles phase ≡ false

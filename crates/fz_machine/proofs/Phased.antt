@@ -1,8 +1,11 @@
 -- What holds in each phase of a pass over a graph, from the short links on. What is marked in this graph is found: its marks are whole.
-use Rattle.std.proofs.Common.{◌≡◌, ◌⊎◌, ◌++◌, [], ℕ, Bool, true, false, List, Option, Some, None}
+use Rattle.std.proofs.Common.{◌≡◌, ◌⊎◌, ◌++◌, [], ℕ, Bool, true, false, List, Option, Some, None, IsTrue}
+use Rattle.std.specs.FinMap.{get}
 use Rattle.std.specs.FinSet.{contains}
 use Rattle.fz_table.specs.Tabled.{Content}
 use Rattle.fz_model.specs.declared.answers.Pick.{Pick}
+use Rattle.fz_model.specs.declared.answers.Registration.{Registration}
+use Rattle.fz_model.specs.Reachability.{Leads}
 use Rattle.fz_model.specs.State.{Map, Object}
 use Rattle.fz_model.specs.Pass.{cleared}
 use Rattle.fz_pass.specs.Holds.{Ephemerons, IsOfKey, Settles}
@@ -19,7 +22,7 @@ use Rattle.fz_machine.specs.declared.item.Item.{Item}
 use Rattle.fz_machine.specs.declared.phase.Moment.{Moment}
 use Rattle.fz_machine.specs.declared.phase.Moment.TheVariants as moments
 use Rattle.fz_machine.specs.declared.phase.Phase.{Phase}
-use Rattle.fz_machine.specs.declared.phase.Phase.TheVariants.{Keys, KeysAgain, Holders, Values, Regions, ShortCleanups, ShortTargets, ShortWords, ShortKeys, ShortKeyWords, Objects, Children, Again, LateAgain, LatePicks, LongTargets, LongWords, LongKeys, LongKeyWords, ShortHolders, LongHolders, ShortKeyHolders, LongKeyHolders, LongCleanups}
+use Rattle.fz_machine.specs.declared.phase.Phase.TheVariants.{Keys, KeysAgain, Holders, Values, Regions, ShortCleanups, ShortTargets, ShortWords, ShortKeys, ShortKeyWords, Objects, Children, Again, Entries, LateAgain, LatePicks, LongTargets, LongWords, LongKeys, LongKeyWords, ShortHolders, LongHolders, ShortKeyHolders, LongKeyHolders, LongCleanups}
 use Rattle.fz_machine.specs.declared.phase.Phase.TheVariants as phase
 use Rattle.fz_machine.specs.Graph.{Graph}
 use Rattle.fz_machine.specs.Items.{place_of}
@@ -32,6 +35,7 @@ use Rattle.fz_machine.proofs.Honest.{IsFalseOf, object_of, word_in}
 use Rattle.fz_machine.proofs.Entered.{IsLate, IsOfEither, IsLateAt, IsEitherAt}
 use Rattle.fz_machine.proofs.Led.{AreLed}
 use Rattle.fz_machine.proofs.Phasing.{Sifts, Clears, Holds}
+use Rattle.fz_machine.proofs.Reaching.{AreReaching}
 use Rattle.fz_machine.proofs.Sifting.{IsAt}
 use Rattle.fz_machine.proofs.Stated.{state_with, tabled, with_keys}
 use Rattle.fz_machine.proofs.Swept.{Begins}
@@ -141,14 +145,27 @@ module _ (E : Type 0) (word_of : ℕ → Option ℕ) (value : Map Object → ℕ
     pub left_are : Each IsUnfound left
     pub rest : (object word : ℕ) → IsEitherAt b.registrations b.late object word → found object ≡ false → OneOf (IsAt object word) kept ⊎ OneOf (IsAt object word) left
 
+  abbrev pub IsUnled : Leading → Item → Type 0
+  IsUnled leading i = IsOfEither b.registrations b.late i × (leading.led i.object ≡ false)
+
   pub record PicksOn (s : State) (kept left : List Item) (h : Graph) : Type 0 where
+    pub leading : Leading
+    pub state : s ≡ begun_with short_left keys_left
+    pub are : AreReaching E clear b.registrations leading.led (skips false flags leading.led) left h
+    pub kept_are : Each (IsUnled leading) kept
+    pub left_are : Each (IsUnled leading) left
+    pub rest : (object word : ℕ) → IsEitherAt b.registrations b.late object word → leading.led object ≡ false → OneOf (IsAt object word) kept ⊎ OneOf (IsAt object word) left
+
+  -- they are queued, once all are marked
+  pub record EntersOn (s : State) (kept left : List Item) (h : Graph) : Type 0 where
     pub leading : Leading
     pub now : Content
     pub picks : List Pick
     pub state : s ≡ picked_with now picks
     pub are : AreChosen E clear (tabled b) leading.led false flags 0 now picks left h
+    pub reached : (o : ℕ) (r : Registration) → get b.registrations o ≡ Some r → skips false flags leading.led o ≡ false → (a : ℕ) → Leads clear o a → IsTrue (h.marked a)
     pub kept_are : Each (λ i. IsLate b.registrations b.late i × (leading.led i.object ≡ false)) kept
-    pub left_are : Each (λ i. IsOfEither b.registrations b.late i × (leading.led i.object ≡ false)) left
+    pub left_are : Each (IsUnled leading) left
     pub rest : (object word : ℕ) → IsLateAt b.registrations b.late object word → leading.led object ≡ false → OneOf (IsAt object word) kept ⊎ OneOf (IsAt object word) left
     pub ordered : AreInOrder place_of (kept ++ left)
 
@@ -231,6 +248,7 @@ module _ (E : Type 0) (word_of : ℕ → Option ℕ) (value : Map Object → ℕ
   IsIn Children s kept left aside off h = LeadsOn s kept left h
   IsIn Again s kept left aside off h = (l : Leading) × Sifts E word_of value (begun_with short_left keys_left) clear l.led (IsOfEither b.registrations b.late) (IsEitherAt b.registrations b.late) s kept left h
   IsIn phase.Picks s kept left aside off h = PicksOn s kept left h
+  IsIn Entries s kept left aside off h = EntersOn s kept left h
   IsIn LateAgain s kept left aside off h =
       (c : Picked) × Sifts E word_of value (picked_with c.table c.picks) clear c.mid (IsLate b.registrations b.late) (IsLateAt b.registrations b.late) s kept left h × AreInOrder place_of (kept ++ left)
   IsIn LatePicks s kept left aside off h = PicksLate s left h

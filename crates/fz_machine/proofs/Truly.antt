@@ -48,7 +48,7 @@ use Rattle.fz_machine.specs.Phases.{after, ask_of, asks, is_known, subject}
 use Rattle.fz_machine.specs.Runs.{AreAskable, AreHonest, IsTrueOf, MakesPass, Runs}
 use Rattle.fz_machine.specs.Steps.{IsQuestion}
 use Rattle.fz_machine.proofs.Due.{both_kinds}
-use Rattle.fz_machine.proofs.Fewer.{IsFit, answers_less, asked_for, sized, to_come_at, words_less}
+use Rattle.fz_machine.proofs.Fewer.{IsFit, answers_less, asked_for, costs_told, sized, to_come_at, words_less}
 use Rattle.fz_machine.proofs.Masked.{bits_taken}
 use Rattle.fz_machine.proofs.Places.{set_here, set_other}
 use Rattle.fz_machine.proofs.Ran.{makes_pass, none_old}
@@ -257,7 +257,7 @@ module _ (s : State) where
   pub leaves_less : (old new : Machine) (heard : Heard) (next was : Next) → Tells old was → Fits old.finalizers.state → GoesTo old heard new next → Advances old heard new → LeavesLess old new
   leaves_less old new (Answers answers) next was tells fits goes (some, few) =
       let within = asked_for most_listed (len s.ephemerons.short) (len s.ephemerons.long) old was tells goes.phase goes.was in
-      let has = answers_less (len s.registrations) (len s.short) (len s.long) (len s.ephemerons.short) (len s.ephemerons.long) (both_kinds s.cleanups).0 (both_kinds s.cleanups).1 old new next answers (omega (arith, few, within)) fits goes in
+      let has = answers_less (len s.registrations) (len s.short) (len s.long) (len s.ephemerons.short) (len s.ephemerons.long) (both_kinds s.cleanups).0 (both_kinds s.cleanups).1 old new next answers (omega (arith, few, within)) (λ p at any. costs_told old was tells p at) fits goes in
       let less = has.less in
       let fewer = goes.fewer in
       record { fits = has.fit; less = omega (arith, less, fewer, some) }
@@ -269,7 +269,7 @@ module _ (s : State) where
   -- the first call has no answers
   pub fits_asked : (begun new : Machine) (answers : List Bool) (next : Next) → answers ≡ [] → Fits begun.finalizers.state → GoesTo begun (Answers answers) new next → Fits new.finalizers.state
   fits_asked begun new answers next none fits goes =
-      (answers_less (len s.registrations) (len s.short) (len s.long) (len s.ephemerons.short) (len s.ephemerons.long) (both_kinds s.cleanups).0 (both_kinds s.cleanups).1 begun new next answers (let no = ap length none in omega (arith, no)) fits goes).fit
+      (answers_less (len s.registrations) (len s.short) (len s.long) (len s.ephemerons.short) (len s.ephemerons.long) (both_kinds s.cleanups).0 (both_kinds s.cleanups).1 begun new next answers (let no = ap length none in omega (arith, no)) (λ p at any. let no = ap length none in absurd (omega (arith, no, any))) fits goes).fit
 
 -- ---- what workers change
 

@@ -7,7 +7,7 @@ use Rattle.fz_finalizers.specs.States.{State, View}
 use Rattle.fz_machine.specs.declared.item.Item.{Item}
 use Rattle.fz_machine.specs.declared.phase.Moment.TheVariants.{First, Led, Picked, Last}
 use Rattle.fz_machine.specs.declared.phase.Phase.{Phase}
-use Rattle.fz_machine.specs.declared.phase.Phase.TheVariants.{Keys, KeysAgain, Holders, Values, Regions, ShortCleanups, ShortTargets, ShortWords, ShortKeys, ShortKeyWords, Objects, Children, Again, Picks, LateAgain, LatePicks, LongTargets, LongWords, LongKeys, LongKeyWords, ShortHolders, LongHolders, ShortKeyHolders, LongKeyHolders, LongCleanups}
+use Rattle.fz_machine.specs.declared.phase.Phase.TheVariants.{Keys, KeysAgain, Holders, Values, Regions, ShortCleanups, ShortTargets, ShortWords, ShortKeys, ShortKeyWords, Objects, Children, Again, Picks, Entries, LateAgain, LatePicks, LongTargets, LongWords, LongKeys, LongKeyWords, ShortHolders, LongHolders, ShortKeyHolders, LongKeyHolders, LongCleanups}
 use Rattle.fz_machine.specs.declared.phase.Sweep.{Sweep}
 use Rattle.fz_machine.specs.declared.phase.Sweep.TheVariants as sweeps
 use Rattle.fz_machine.specs.Going.{AreNoMore, AreReady, AreTables, Changes, HasAsk, HasRoomOff, HaveRoom, IsListed, IsTable, emptied, follows_settling, going, left_in, questions_by, questions_in, questions_of, swept_by, told_for, told_in}
@@ -389,6 +389,7 @@ follows Objects more off = (refl, inl (refl, refl))
 follows Children more off = (refl, inl (refl, refl))
 follows Again more off = (refl, inl (refl, refl))
 follows Picks more off = (refl, inl (refl, refl))
+follows Entries more off = (refl, inl (refl, refl))
 follows LateAgain more off = (refl, inl (refl, refl))
 follows LatePicks more off = (refl, inl (refl, refl))
 follows LongTargets more off = (refl, inl (refl, refl))
@@ -527,7 +528,8 @@ last_phase ShortKeyWords more is = absurd (none-some (Regions sweeps.Objects) (s
 last_phase Objects more is = absurd (none-some Children (sym is))
 last_phase Children more is = absurd (none-some (Keys Led) (sym is))
 last_phase Again more is = absurd (none-some Picks (sym is))
-last_phase Picks more is = absurd (none-some (Keys Picked) (sym is))
+last_phase Picks more is = absurd (none-some Entries (sym is))
+last_phase Entries more is = absurd (none-some (Keys Picked) (sym is))
 last_phase LateAgain more is = absurd (none-some LatePicks (sym is))
 last_phase LatePicks more is = absurd (none-some (Keys Last) (sym is))
 last_phase LongTargets more is = absurd (none-some LongWords (sym is))

@@ -12,6 +12,7 @@ use Rattle.fz_pass.specs.Queued.{MarksLed}
 use Rattle.fz_pass.specs.QueuedWhole.{QueuesWhole}
 use Rattle.fz_pass.specs.Marks.{IsClosed, with_holders, with_targets}
 use Rattle.fz_pass.specs.Places.{is_held, placed, links_held}
+use Rattle.fz_pass.specs.Tiers.{skips}
 use Rattle.fz_pass.proofs.Holding.{whole_closed}
 use Rattle.fz_pass.proofs.Passed.{closed_still, dropped_twice}
 use Rattle.fz_pass.proofs.Tiers.{flag_of_round, unskipped_off}
@@ -25,11 +26,11 @@ use Rattle.fz_machine.specs.declared.item.Item.{Item}
 use Rattle.fz_machine.specs.declared.phase.Moment.{Moment}
 use Rattle.fz_machine.specs.declared.phase.Moment.TheVariants as moments
 use Rattle.fz_machine.specs.declared.phase.Phase.{Phase}
-use Rattle.fz_machine.specs.declared.phase.Phase.TheVariants.{Keys, KeysAgain, Holders, Values, Regions, ShortCleanups, ShortTargets, ShortWords, ShortKeys, ShortKeyWords, Objects, Children, Again, Picks, LateAgain, LatePicks, LongTargets, LongWords, LongKeys, LongKeyWords, ShortHolders, LongHolders, ShortKeyHolders, LongKeyHolders, LongCleanups}
+use Rattle.fz_machine.specs.declared.phase.Phase.TheVariants.{Keys, KeysAgain, Holders, Values, Regions, ShortCleanups, ShortTargets, ShortWords, ShortKeys, ShortKeyWords, Objects, Children, Again, Picks, Entries, LateAgain, LatePicks, LongTargets, LongWords, LongKeys, LongKeyWords, ShortHolders, LongHolders, ShortKeyHolders, LongKeyHolders, LongCleanups}
 use Rattle.fz_machine.specs.declared.phase.Sweep.TheVariants as sweeps
 use Rattle.fz_machine.specs.declared.question.Ask.TheVariants.{Live, Marks}
 use Rattle.fz_machine.specs.Graph.{AreHonestWords, Graph}
-use Rattle.fz_machine.specs.Items.{AreCleanups, AreInTurn, AreLinks, AreObjects, is_still, place_of}
+use Rattle.fz_machine.specs.Items.{AreCleanups, AreGrouped, AreInTurn, AreLinks, AreObjects, is_still, place_of}
 use Rattle.fz_machine.specs.Items as the
 use Rattle.fz_machine.specs.Off.{PutOff, all_off, looked_at, looking, looks_again, none_off}
 use Rattle.fz_machine.specs.Phases.{next_phase, settles}
@@ -37,13 +38,14 @@ use Rattle.fz_machine.specs.Regions.{IsOfSweep}
 use Rattle.fz_machine.proofs.Among.{AreInOrder, Each, OneOf, each_as, each_permuted, one_as, one_permuted, order_from}
 use Rattle.fz_machine.proofs.Begun.{HasBegun, closed, found_led, led_picked, long_key_targets, long_targets, normal, not_before, registered, short_key_targets, still_nowhere, was_there, young_attached, young_registered}
 use Rattle.fz_machine.proofs.Cleaning.{cleaning_all, cleaning_begins}
-use Rattle.fz_machine.proofs.Chosen.{choosing_begins, chosen_all}
+use Rattle.fz_machine.proofs.Chosen.{choosing_begins, choosing_from, chosen_all}
 use Rattle.fz_machine.proofs.DeadWords.{IsLink, IsLinkAt}
 use Rattle.fz_machine.proofs.Entered.{IsEitherAt, either_at, IsLate, IsLateAt, IsOfEither, objects_all, objects_each, objects_known}
 use Rattle.fz_machine.proofs.Honest.{Knows, known_false, knows, not_told, object_of}
 use Rattle.fz_machine.proofs.Led.{leading_begins, led_all}
-use Rattle.fz_machine.proofs.Phased.{IsAfter, IsAtEnd, IsIn, IsSettling, IsUnfound, Leading, LeadsOn, Picked, PickedBoth, PicksLate, PicksOn, SettlesLed, SettlesPicked, SettlesLast, after_picks, begun_with, clear, cleared_links, judged, keys_held, keys_left, last, last_links, long_held, long_keys_held, long_keys_left, long_left, passed, picked_with, short_held, short_left}
+use Rattle.fz_machine.proofs.Phased.{EntersOn, IsAfter, IsAtEnd, IsIn, IsSettling, IsUnfound, IsUnled, Leading, LeadsOn, Picked, PickedBoth, PicksLate, PicksOn, SettlesLed, SettlesPicked, SettlesLast, after_picks, begun_with, clear, cleared_links, judged, keys_held, keys_left, last, last_links, long_held, long_keys_held, long_keys_left, long_left, passed, picked_with, short_held, short_left}
 use Rattle.fz_machine.proofs.Phasing.{Clears, Holds, Sifts, clears_all, clears_begin, holds_all, holds_begin, holds_from, sifts_begin, targets_begin}
+use Rattle.fz_machine.proofs.Reaching.{reaching_begins}
 use Rattle.fz_machine.proofs.Sifting.{IsAt, sifted}
 use Rattle.fz_machine.proofs.Stated.{tabled}
 use Rattle.fz_machine.proofs.Parted.{AreOff, IsParted, each_of_kind, holders_listed, keys_listed, waits_listed}
@@ -137,15 +139,15 @@ module _ (E : Type 0) (word_of : ℕ → Option ℕ) (value : Map Object → ℕ
         known_false before.marked is_it told object_of known items (each_as Either (λ (i : Item). is_it i.object) (λ i either. ⊎_elim (λ x. ap is_some x.1) (λ x. ap is_some x.1) either) items each) (objects_known b.registrations b.late begin.from told items listed),
       )
 
-  to_children : (s : State) (kept : List Item) (h : Graph) → Sifts E word_of value (with_links shorts keys) clearly before.marked Either EitherAt s kept [] h → (items : List Item) → items ≡ kept → LeadsOn E word_of value b before s [] items h
-  to_children s kept h p items is =
-      let all = λ (object word : ℕ) (at : EitherAt object word) (off : before.marked object ≡ false). subst (OneOf (IsAt object word)) (sym is) (sifted before.marked Either EitherAt kept p.sifted object word at off) in
+  to_children : (s : State) (kept : List Item) (h : Graph) → Sifts E word_of value (with_links shorts keys) clearly before.marked Either EitherAt s kept [] h → (items : List Item) → AreGrouped kept items → LeadsOn E word_of value b before s [] items h
+  to_children s kept h p items grouped =
+      let all = λ (object word : ℕ) (at : EitherAt object word) (off : before.marked object ≡ false). one_permuted (IsAt object word) kept items grouped.0 (sifted before.marked Either EitherAt kept p.sifted object word at off) in
       record {
         state = p.state;
         are = leading_begins E word_of value clearly b.registrations b.late before.marked items h p.objects_are p.marks_are (closed E word_of value b before begin)
             (λ object here off. one_as (IsAt object 0) (λ (i : Item). i.object ≡ object) (λ i at. at.0) items (all object 0 (either_at b.registrations b.late object here) off));
         kept_are = tt;
-        left_are = subst (Each (IsUnfound E word_of value b before)) (sym is) p.sifted.kept_are;
+        left_are = each_permuted (IsUnfound E word_of value b before) kept items grouped.0 p.sifted.kept_are;
         rest = λ object word at off. inr (all object word at off);
       }
 
@@ -178,25 +180,42 @@ module _ (E : Type 0) (word_of : ℕ → Option ℕ) (value : Map Object → ℕ
   led_closed l = whole_closed word_of value clearly (IsOfKey rows) l.led l.settled.whole
 
   to_picks : (s : State) (kept : List Item) (h : Graph) (l : Leading E word_of value b before) → Sifts E word_of value (with_links shorts keys) clearly l.led Either EitherAt s kept [] h
-      → (items : List Item) → AreInTurn kept items → PicksOn E word_of value b before s [] items h
-  to_picks s kept h l p items turned =
-      let all = λ (object word : ℕ) (at : EitherAt object word) (off : l.led object ≡ false). one_permuted (IsAt object word) kept items turned.0 (sifted l.led Either EitherAt kept p.sifted object word at off) in
+      → (items : List Item) → items ≡ kept → PicksOn E word_of value b before s [] items h
+  to_picks s kept h l p items is =
+      let all = λ (object word : ℕ) (at : EitherAt object word) (off : l.led object ≡ false). subst (OneOf (IsAt object word)) (sym is) (sifted l.led Either EitherAt kept p.sifted object word at off) in
       record {
         leading = l;
+        state = p.state;
+        are = reaching_begins E clearly b.registrations l.led (skips false (contains b.late) l.led) items h p.objects_are p.marks_are (led_closed l)
+            (λ a r here off. one_as (IsAt a 0) (λ (i : Item). i.object ≡ a) (λ i at. at.0) items (all a 0 (either_at b.registrations b.late a (ap is_some here)) (unskipped_off false (contains b.late) l.led a (ap not off))));
+        kept_are = tt;
+        left_are = subst (Each (IsUnled E word_of value b before l)) (sym is) p.sifted.kept_are;
+        rest = λ object word at off. inr (all object word at off);
+      }
+
+  -- ---- to entries
+
+  to_entries : (s : State) (kept : List Item) (h : Graph) → PicksOn E word_of value b before s kept [] h → (items : List Item) → AreInTurn kept items → EntersOn E word_of value b before s [] items h
+  to_entries s kept h p items turned =
+      let led = p.leading.led in
+      let all = λ (object word : ℕ) (at : EitherAt object word) (off : led object ≡ false). one_permuted (IsAt object word) kept items turned.0 (⊎_elim (λ k. k) (λ k. absurd k) (p.rest object word at off)) in
+      record {
+        leading = p.leading;
         now = tabled b;
         picks = [];
         state = p.state;
-        are = choosing_begins E clearly (tabled b) l.led false (contains b.late) 0 items h p.objects_are p.marks_are (led_closed l)
-            (λ a r here off. one_as (IsAt a 0) (λ (i : Item). i.object ≡ a) (λ i at. at.0) items (all a 0 (either_at b.registrations b.late a (ap is_some here)) (unskipped_off false (contains b.late) l.led a (ap not off))));
+        are = choosing_from E clearly (tabled b) led false (contains b.late) 0 items h p.are.objects p.are.closed p.are.least p.are.most
+            (λ a r here off. one_as (IsAt a 0) (λ (i : Item). i.object ≡ a) (λ i at. at.0) items (all a 0 (either_at b.registrations b.late a (ap is_some here)) (unskipped_off false (contains b.late) led a (ap not off))));
+        reached = λ o r here off. ⊎_elim (λ none. absurd none) (λ f. f) (p.are.reached o r here off);
         kept_are = tt;
-        left_are = each_permuted (λ i. Either i × (l.led i.object ≡ false)) kept items turned.0 p.sifted.kept_are;
+        left_are = each_permuted (IsUnled E word_of value b before p.leading) kept items turned.0 p.kept_are;
         rest = λ object word at off. inr (all object word (inr at) off);
         ordered = order_from place_of items turned.1;
       }
 
   -- ---- to picks of late ones
 
-  to_picked : (s : State) (kept : List Item) (off : PutOff) (h : Graph) → PicksOn E word_of value b before s kept [] h → PartedIn Picks s off h → (items : List Item) → items ≡ filter (is_still None s.ephemerons) (all_off off)
+  to_picked : (s : State) (kept : List Item) (off : PutOff) (h : Graph) → EntersOn E word_of value b before s kept [] h → PartedIn Entries s off h → (items : List Item) → items ≡ filter (is_still None s.ephemerons) (all_off off)
       → At (Keys moments.Picked) s [] items kept none_off h
   to_picked s kept off h p q items is =
       let listed = waits_listed E word_of value b.ephemerons s off h q.stays (q.all refl) items rows clearly (ap (λ (t : State). t.ephemerons) p.state) p.are.objects is in
@@ -337,10 +356,11 @@ module _ (E : Type 0) (word_of : ℕ → Option ℕ) (value : Map Object → ℕ
   turn ShortWords s kept aside off h p q = λ told none items is. to_short_keys s aside off h p q items is
   turn ShortKeys s kept aside off h p q = λ told none items is. clears_begin E word_of value (λ keys. with_links shorts keys) begun b.ephemerons.short before.marked (short_key_targets E word_of value b before begin) s kept items h p is
   turn ShortKeyWords s kept aside off h p q = λ told true_words items are. to_objects s aside off h p told true_words items are
-  turn Objects s kept aside off h p q = λ told none items is. to_children s kept h p.0 items is
+  turn Objects s kept aside off h p q = λ told none items grouped. to_children s kept h p.0 items grouped
   turn Children s kept aside off h p q = λ told none items is. to_led s kept off h p q items is
-  turn Again s kept aside off h (l, p) q = λ told none items turned. to_picks s kept h l p items turned
-  turn Picks s kept aside off h p q = λ told none items is. to_picked s kept off h p q items is
+  turn Again s kept aside off h (l, p) q = λ told none items is. to_picks s kept h l p items is
+  turn Picks s kept aside off h p q = λ told none items turned. to_entries s kept h p items turned
+  turn Entries s kept aside off h p q = λ told none items is. to_picked s kept off h p q items is
   turn LateAgain s kept aside off h (c, p, ordered) q = λ told none items is. to_late_picks s kept h c p ordered items is
   turn LatePicks s kept aside off h p q = λ told none items is. to_last s kept off h p q items is
   turn LongTargets s kept aside off h (c, p, known) q = λ told none items is.

@@ -43,7 +43,7 @@ use Rattle.fz_machine.proofs.Begun.{HasBegun, found_led, led_picked}
 use Rattle.fz_machine.proofs.Cleaning.{after_due}
 use Rattle.fz_machine.proofs.Due.{both_kinds}
 use Rattle.fz_machine.proofs.Entered.{stands}
-use Rattle.fz_machine.proofs.Fewer.{AreFewListed, IsEnough, IsFit, IsHearing, IsPassed, answers_few, begins_few, cost, cost_kept, fit_begins, fit_still, goes_few, most_is, sized, to_come_in, told_few, worked_few}
+use Rattle.fz_machine.proofs.Fewer.{AreFewListed, IsEnough, IsFit, IsHearing, IsPassed, answers_few, begins_few, cost, cost_each, cost_kept, fit_begins, fit_still, goes_few, most_is, sized, to_come_in, told_few, worked_few}
 use Rattle.fz_machine.proofs.Opening as opening
 use Rattle.fz_machine.proofs.Opening.{IsOfFirst, begin_found}
 use Rattle.fz_machine.proofs.Phased as phased
@@ -346,12 +346,12 @@ module _ (E : Type 0) (word_of : ℕ → Option ℕ) (value : Map Object → ℕ
     abbrev apart_going : Machine → Going
     apart_going m = going_apart b.taken b.held (machines.going_of m)
 
-    heard_few : (m : Machine) (heard : Heard) (phase : Phase) (h new : Graph) → IsTrueOf E word_of value m heard phase h new
+    heard_few : (m : Machine) (heard : Heard) (phase : Phase) (h new : Graph) → cost_each phase ≡ 1 → IsTrueOf E word_of value m heard phase h new
         → answers_in heard + to_come_in budget es el (Some phase) (heard_by phase m.regions heard (apart_going m)) ≤ to_come_in budget es el (Some phase) (machines.going_of m)
-    heard_few m (Answers answers) phase h new honest =
+    heard_few m (Answers answers) phase h new costs honest =
         subst (λ (k : Going). length answers + to_come_in budget es el (Some phase) k ≤ to_come_in budget es el (Some phase) (machines.going_of m)) (sym (heard_answers phase m.regions answers (apart_going m)))
-        (answers_few budget es el phase answers m (apart b.taken b.held m.finalizers.state) (answers_within phase answers m.walk.left h new honest))
-    heard_few m (Words words) phase h new honest =
+        (answers_few budget es el phase answers m (apart b.taken b.held m.finalizers.state) (answers_within phase answers m.walk.left h new honest) (λ some. costs))
+    heard_few m (Words words) phase h new costs honest =
         subst (λ (k : Going). 0 + to_come_in budget es el (Some phase) k ≤ to_come_in budget es el (Some phase) (machines.going_of m)) (sym (heard_words phase m.regions words (apart_going m))) (omega arith)
 
     record IsHere (n : ℕ) (m : Machine) : Type 0 where
@@ -386,7 +386,7 @@ module _ (E : Type 0) (word_of : ℕ → Option ℕ) (value : Map Object → ℕ
           let stops : Stops m.phase = λ sweep at. all sweep ∙ ap (λ (bs : List Bool). is_noted sweep (record m { noted = bs })) (sym (goes.noted ∙ noted_stays first old q runs)) ∙ stops_at m next goes.tells sweep at in
           record {
             fit = goes_keep Fit (fit_still r s g es el sc l) goes.phase k m.phase (apart_going m) goes_on fit;
-            hears = goes_few budget es el goes.phase (answered runs) old m (answers_in heard) k (apart b.taken b.held m.finalizers.state) next goes.was (heard_few old heard goes.phase q h honest) goes_on
+            hears = goes_few budget es el goes.phase (answered runs) old m (answers_in heard) k (apart b.taken b.held m.finalizers.state) next goes.was (heard_few old heard goes.phase q h (was.hears.costs goes.phase goes.was) honest) goes_on
                 (few_on goes.phase k m.phase (apart_going m) h goes_on hears fit stops) goes.tells was.hears;
           }
       few_ran m h (Meanwhile {m = old} worked runs) here =

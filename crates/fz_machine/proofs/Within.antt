@@ -11,7 +11,7 @@ use Rattle.fz_finalizers.specs.States.{State}
 use Rattle.fz_finalizers.proofs.Counting.{len_less}
 use Rattle.fz_machine.specs.declared.item.Item.{Item}
 use Rattle.fz_machine.specs.declared.phase.Phase.{Phase}
-use Rattle.fz_machine.specs.declared.phase.Phase.TheVariants.{Keys, KeysAgain, Holders, Values, Regions, ShortCleanups, ShortTargets, ShortWords, ShortKeys, ShortKeyWords, Objects, Children, Again, Picks, LateAgain, LatePicks, LongTargets, LongWords, LongKeys, LongKeyWords, ShortHolders, LongHolders, ShortKeyHolders, LongKeyHolders, LongCleanups}
+use Rattle.fz_machine.specs.declared.phase.Phase.TheVariants.{Keys, KeysAgain, Holders, Values, Regions, ShortCleanups, ShortTargets, ShortWords, ShortKeys, ShortKeyWords, Objects, Children, Again, Picks, Entries, LateAgain, LatePicks, LongTargets, LongWords, LongKeys, LongKeyWords, ShortHolders, LongHolders, ShortKeyHolders, LongKeyHolders, LongCleanups}
 use Rattle.fz_machine.specs.Phases.{after, without_key}
 
 -- no more registrations, links and ephemerons than these, and cleanups of which this holds
@@ -70,7 +70,8 @@ module _ (r s g es el : ℕ) (C : Map Attached → Type 0) (fewer : (m : Map Att
   still Objects item answer = h
   still Children item answer = h
   still Again item answer = h
-  still Picks item answer = cases (is_late item.kind) t (queued_object t item.object) h (queued item.object)
+  still Picks item answer = h
+  still Entries item answer = cases (is_late item.kind) t (queued_object t item.object) h (queued item.object)
   still LateAgain item answer = h
   still LatePicks item answer = queued item.object
   still LongTargets item answer = h

@@ -14,7 +14,7 @@ use Rattle.fz_finalizers.specs.States.{State, is_held}
 use Rattle.fz_machine.specs.declared.item.Item.{Item}
 use Rattle.fz_machine.specs.declared.phase.Moment.TheVariants.{First}
 use Rattle.fz_machine.specs.declared.phase.Phase.{Phase}
-use Rattle.fz_machine.specs.declared.phase.Phase.TheVariants.{Keys, KeysAgain, Holders, Values, Regions, ShortCleanups, ShortTargets, ShortWords, ShortKeys, ShortKeyWords, Objects, Children, Again, Picks, LateAgain, LatePicks, LongTargets, LongWords, LongKeys, LongKeyWords, ShortHolders, LongHolders, ShortKeyHolders, LongKeyHolders, LongCleanups}
+use Rattle.fz_machine.specs.declared.phase.Phase.TheVariants.{Keys, KeysAgain, Holders, Values, Regions, ShortCleanups, ShortTargets, ShortWords, ShortKeys, ShortKeyWords, Objects, Children, Again, Picks, Entries, LateAgain, LatePicks, LongTargets, LongWords, LongKeys, LongKeyWords, ShortHolders, LongHolders, ShortKeyHolders, LongKeyHolders, LongCleanups}
 use Rattle.fz_machine.specs.Machines as machines
 use Rattle.fz_machine.specs.Machines.{Answers, Heard, IsWork, Words, Works, heard_by}
 use Rattle.fz_machine.specs.Off.{looks_again, put_off}
@@ -44,7 +44,8 @@ module _ (P : (State → State) → Type 0) (same : P (λ s. s)) (short : (word 
   by_change Objects item answer = same
   by_change Children item answer = same
   by_change Again item answer = same
-  by_change Picks item answer = unless (is_late item.kind) (λ s. queued_object s item.object) (queued item.object)
+  by_change Picks item answer = same
+  by_change Entries item answer = unless (is_late item.kind) (λ s. queued_object s item.object) (queued item.object)
   by_change LateAgain item answer = same
   by_change LatePicks item answer = queued item.object
   by_change LongTargets item answer = same
@@ -131,6 +132,7 @@ module _ (taken : ℕ) (held : List Entry) where
   lists_apart Children from told s kept items is = is
   lists_apart Again from told s kept items is = is
   lists_apart Picks from told s kept items is = is
+  lists_apart Entries from told s kept items is = is
   lists_apart LateAgain from told s kept items is = is
   lists_apart LatePicks from told s kept items is = is
   lists_apart LongTargets from told s kept items is = is

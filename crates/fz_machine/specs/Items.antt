@@ -99,6 +99,17 @@ place_of item = item.turn * 2 ^ 64 + item.object
 abbrev pub AreInTurn : List Item → List Item → Type 0
 AreInTurn items ordered = IsPermutation items ordered × IsNonDecreasingBy place_of ordered
 
+-- kinds of which the same is asked, when children and when picks are marked, have neighbouring numbers
+abbrev pub group_of : Kind → ℕ
+group_of Unreachable = 0
+group_of Normal = 1
+group_of IgnoreSelf = 2
+group_of NoOrder = 3
+
+-- the same items, sorted by the groups of their kinds: a question takes items of one or two kinds, and no kinds alternate
+abbrev pub AreGrouped : List Item → List Item → Type 0
+AreGrouped items grouped = IsPermutation items grouped × IsNonDecreasingBy (λ (item : Item). group_of item.kind) grouped
+
 abbrev kind_code : Coded Kind
 kind_code = code_by ℕ coded_ℕ to back same
   where

@@ -9,7 +9,7 @@ use Rattle.fz_finalizers.specs.States.{State, View, view_code, waiting}
 use Rattle.fz_machine.specs.declared.phase.Moment.{Moment}
 use Rattle.fz_machine.specs.declared.phase.Moment.TheVariants.{First, Led, Picked, Last}
 use Rattle.fz_machine.specs.declared.phase.Phase.{Phase}
-use Rattle.fz_machine.specs.declared.phase.Phase.TheVariants.{Keys, KeysAgain, Holders, Values, Regions, ShortCleanups, ShortTargets, ShortWords, ShortKeys, ShortKeyWords, Objects, Children, Again, Picks, LateAgain, LatePicks, LongTargets, LongWords, LongKeys, LongKeyWords, ShortHolders, LongHolders, ShortKeyHolders, LongKeyHolders, LongCleanups}
+use Rattle.fz_machine.specs.declared.phase.Phase.TheVariants.{Keys, KeysAgain, Holders, Values, Regions, ShortCleanups, ShortTargets, ShortWords, ShortKeys, ShortKeyWords, Objects, Children, Again, Picks, Entries, LateAgain, LatePicks, LongTargets, LongWords, LongKeys, LongKeyWords, ShortHolders, LongHolders, ShortKeyHolders, LongKeyHolders, LongCleanups}
 use Rattle.fz_machine.specs.declared.phase.Sweep.{Sweep}
 use Rattle.fz_machine.specs.declared.phase.Sweep.TheVariants as sweeps
 use Rattle.fz_machine.specs.declared.machine.By.{By}
@@ -115,7 +115,8 @@ phase_code = code_by (ℕ × (Moment × Sweep)) (coded× coded_ℕ (coded× mome
     to ShortKeyHolders = (21, (First, sweeps.Objects))
     to LongKeyHolders = (22, (First, sweeps.Objects))
     to LongCleanups = (23, (First, sweeps.Objects))
-    to (Regions sweep) = (24, (First, sweep))
+    to Entries = (24, (First, sweeps.Objects))
+    to (Regions sweep) = (25, (First, sweep))
 
     back : Moment → Sweep → ℕ → Phase
     back moment sweep zero = Keys moment
@@ -142,7 +143,8 @@ phase_code = code_by (ℕ × (Moment × Sweep)) (coded× coded_ℕ (coded× mome
     back moment sweep (suc (suc (suc (suc (suc (suc (suc (suc (suc (suc (suc (suc (suc (suc (suc (suc (suc (suc (suc (suc (suc zero))))))))))))))))))))) = ShortKeyHolders
     back moment sweep (suc (suc (suc (suc (suc (suc (suc (suc (suc (suc (suc (suc (suc (suc (suc (suc (suc (suc (suc (suc (suc (suc zero)))))))))))))))))))))) = LongKeyHolders
     back moment sweep (suc (suc (suc (suc (suc (suc (suc (suc (suc (suc (suc (suc (suc (suc (suc (suc (suc (suc (suc (suc (suc (suc (suc zero))))))))))))))))))))))) = LongCleanups
-    back moment sweep (suc (suc (suc (suc (suc (suc (suc (suc (suc (suc (suc (suc (suc (suc (suc (suc (suc (suc (suc (suc (suc (suc (suc (suc n)))))))))))))))))))))))) = Regions sweep
+    back moment sweep (suc (suc (suc (suc (suc (suc (suc (suc (suc (suc (suc (suc (suc (suc (suc (suc (suc (suc (suc (suc (suc (suc (suc (suc zero)))))))))))))))))))))))) = Entries
+    back moment sweep (suc (suc (suc (suc (suc (suc (suc (suc (suc (suc (suc (suc (suc (suc (suc (suc (suc (suc (suc (suc (suc (suc (suc (suc (suc n))))))))))))))))))))))))) = Regions sweep
 
     same : (p : Phase) → back (to p).1.0 (to p).1.1 (to p).0 ≡ p
     same (Keys moment) = refl
@@ -169,6 +171,7 @@ phase_code = code_by (ℕ × (Moment × Sweep)) (coded× coded_ℕ (coded× mome
     same ShortKeyHolders = refl
     same LongKeyHolders = refl
     same LongCleanups = refl
+    same Entries = refl
     same (Regions sweep) = refl
 
 abbrev pub machine_code : Coded Machine
@@ -207,6 +210,10 @@ PassesOver old new = questions_left new < questions_left old
 -- the regions are those of before
 abbrev pub KeepsRegions : Machine → Machine → Type 0
 KeepsRegions old new = (new.by ≡ old.by) × (new.noted ≡ old.noted) × (new.tabled ≡ old.tabled)
+
+-- all that was noted of regions still is, in no more of them
+abbrev pub KeepsNotes : Machine → Machine → Type 0
+KeepsNotes old new = (new.by ≡ old.by) × (new.noted ≡ old.noted) × AreFewer old.tabled new.tabled
 
 -- the regions of a sweep are those of before; or there is one more, or no longer all is noted; or all is noted again, in no more regions than there are items
 abbrev pub Keeps : Machine → Machine → Sweep → Type 0

@@ -13,12 +13,12 @@ use Rattle.fz_machine.specs.declared.item.Item.{Item}
 use Rattle.fz_machine.specs.declared.phase.Moment.{Moment}
 use Rattle.fz_machine.specs.declared.phase.Moment.TheVariants.{First, Led, Picked, Last}
 use Rattle.fz_machine.specs.declared.phase.Phase.{Phase}
-use Rattle.fz_machine.specs.declared.phase.Phase.TheVariants.{Keys, KeysAgain, Holders, Values, Regions, ShortCleanups, ShortTargets, ShortWords, ShortKeys, ShortKeyWords, Objects, Children, Again, Picks, LateAgain, LatePicks, LongTargets, LongWords, LongKeys, LongKeyWords, ShortHolders, LongHolders, ShortKeyHolders, LongKeyHolders, LongCleanups}
+use Rattle.fz_machine.specs.declared.phase.Phase.TheVariants.{Keys, KeysAgain, Holders, Values, Regions, ShortCleanups, ShortTargets, ShortWords, ShortKeys, ShortKeyWords, Objects, Children, Again, Picks, Entries, LateAgain, LatePicks, LongTargets, LongWords, LongKeys, LongKeyWords, ShortHolders, LongHolders, ShortKeyHolders, LongKeyHolders, LongCleanups}
 use Rattle.fz_machine.specs.declared.phase.Sweep.{Sweep}
 use Rattle.fz_machine.specs.declared.phase.Sweep.TheVariants as sweeps
 use Rattle.fz_machine.specs.declared.question.Ask.{Ask}
 use Rattle.fz_machine.specs.declared.question.Ask.TheVariants.{IsMarked, MarkChildren, MarkOthers, Mark, MarkAlone, Clear, IsHolderMarked, Marks, Live, MarkValue}
-use Rattle.fz_machine.specs.Items.{AreCleanups, AreEphemerons, AreLinks, AreObjects, AreInTurn, is_still, target_of, word_of}
+use Rattle.fz_machine.specs.Items.{AreCleanups, AreEphemerons, AreGrouped, AreLinks, AreObjects, AreInTurn, is_still, target_of, word_of}
 use Rattle.fz_machine.specs.Off.{PutOff, all_off, none_off, looked_at, looking}
 
 -- the phase that a sweep comes before
@@ -75,7 +75,8 @@ next_phase ShortKeyWords again = Some (Regions sweeps.Objects)
 next_phase Objects again = Some Children
 next_phase Children again = Some (Keys Led)
 next_phase Again again = Some Picks
-next_phase Picks again = Some (Keys Picked)
+next_phase Picks again = Some Entries
+next_phase Entries again = Some (Keys Picked)
 next_phase LateAgain again = Some LatePicks
 next_phase LatePicks again = Some (Keys Last)
 next_phase LongTargets again = Some LongWords
@@ -107,14 +108,14 @@ child_ask IgnoreSelf = Some MarkOthers
 child_ask NoOrder = None
 child_ask Unreachable = Some MarkChildren
 
--- the command that marks a queued object; one of kind `Unreachable` waits for its phase
+-- the command that marks an object that is to be queued; one of kind `Unreachable` waits for its phase
 abbrev pub pick_ask : Kind → Option Ask
 pick_ask Normal = Some MarkAlone
 pick_ask IgnoreSelf = Some MarkAlone
 pick_ask NoOrder = Some Mark
 pick_ask Unreachable = None
 
--- what a phase asks about an item of which it knows nothing; a sweep asks about no items, but about regions
+-- what a phase asks about an item of which it knows nothing; a sweep asks about no items, but about regions, and one phase only queues
 abbrev pub ask_of : Phase → Item → Option Ask
 ask_of (Keys moment) item = Some IsMarked
 ask_of (KeysAgain moment) item = Some IsMarked
@@ -130,6 +131,7 @@ ask_of Objects item = Some IsMarked
 ask_of Children item = child_ask item.kind
 ask_of Again item = Some IsMarked
 ask_of Picks item = pick_ask item.kind
+ask_of Entries item = None
 ask_of LateAgain item = Some IsMarked
 ask_of LatePicks item = Some MarkAlone
 ask_of LongTargets item = Some IsMarked
@@ -166,6 +168,7 @@ subject Objects item = item.object
 subject Children item = item.object
 subject Again item = item.object
 subject Picks item = item.object
+subject Entries item = item.object
 subject LateAgain item = item.object
 subject LatePicks item = item.object
 subject LongTargets item = item.object
@@ -193,7 +196,8 @@ keeps ShortKeyWords item answer = false
 keeps Objects item answer = not answer
 keeps Children item answer = true
 keeps Again item answer = not answer
-keeps Picks item answer = is_late item.kind
+keeps Picks item answer = true
+keeps Entries item answer = is_late item.kind
 keeps LateAgain item answer = not answer
 keeps LatePicks item answer = false
 keeps LongTargets item answer = not answer
@@ -231,7 +235,8 @@ after ShortKeyWords item answer s = without_key s item.word
 after Objects item answer s = s
 after Children item answer s = s
 after Again item answer s = s
-after Picks item answer s = if is_late item.kind then s else queued_object s item.object
+after Picks item answer s = s
+after Entries item answer s = if is_late item.kind then s else queued_object s item.object
 after LateAgain item answer s = s
 after LatePicks item answer s = queued_object s item.object
 after LongTargets item answer s = s
@@ -286,9 +291,10 @@ Lists ShortWords from told s given items = items ≡ given
 Lists ShortKeys from told s given items = items ≡ filter (is_still (Some Short) s.ephemerons) given
 Lists ShortKeyWords from told s given items = items ≡ given
 Lists Objects from told s given items = AreObjects from told s.registrations s.late items
-Lists Children from told s given items = items ≡ given
+Lists Children from told s given items = AreGrouped given items
 Lists Again from told s given items = items ≡ given
-Lists Picks from told s given items = AreInTurn given items
+Lists Picks from told s given items = items ≡ given
+Lists Entries from told s given items = AreInTurn given items
 Lists LateAgain from told s given items = items ≡ given
 Lists LatePicks from told s given items = items ≡ given
 Lists LongTargets from told s given items = AreLinks target_of told s.long items

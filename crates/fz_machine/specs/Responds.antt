@@ -6,10 +6,11 @@ use Rattle.fz_machine.specs.declared.item.Item.{Item}
 use Rattle.fz_machine.specs.declared.pass.Next.{Next}
 use Rattle.fz_machine.specs.declared.phase.Phase.{Phase}
 use Rattle.fz_machine.specs.declared.question.Ask.{Ask}
+use Rattle.fz_machine.specs.Asks.{bits_of}
 use Rattle.fz_machine.specs.Graph.{Graph}
 use Rattle.fz_machine.specs.Machines.{Machine, Heard, Answers, Words, GoesTo, PassesOver}
 use Rattle.fz_machine.specs.Phases.{asks, subject}
-use Rattle.fz_machine.specs.Runs.{AreAskable, IsTrueOf}
+use Rattle.fz_machine.specs.Runs.{AreAskable, AreHonest, IsTrueOf}
 
 -- a phase asks this about the first items, whose objects or words these are, and may ask it about each after true answers about those before it
 pub record IsAbout (Exact : Type 0) (place : ℕ → Option ℕ) (value : Map Object → ℕ → Option ℕ) (phase : Phase) (ask : Ask) (about : List ℕ) (items : List Item) (g : Graph) : Type 0 where
@@ -17,6 +18,11 @@ pub record IsAbout (Exact : Type 0) (place : ℕ → Option ℕ) (value : Map Ob
   pub alike : All (λ item. asks phase item ≡ Some ask) (take (length about) items)
   pub same : about ≡ map (subject phase) (take (length about) items)
   pub askable : AreAskable Exact place value phase items g
+
+-- the bits of a word are true answers about these objects or words, whatever phase asks about them
+abbrev pub AnswersHonestly : Type 0 → (ℕ → Option ℕ) → (Map Object → ℕ → Option ℕ) → Ask → List ℕ → ℕ → Graph → Graph → Type 0
+AnswersHonestly Exact place value ask about bits before after =
+    (phase : Phase) (items : List Item) → IsAbout Exact place value phase ask about items before → AreHonest Exact place value phase (take (length about) (bits_of bits)) items before after
 
 -- something that was asked is answered
 abbrev pub Advances : Machine → Heard → Machine → Type 0

@@ -4,7 +4,7 @@ use Rattle.std.specs.Prelude.{◌≡◌, ℕ, Bool, true, false, List, filter, m
 use Rattle.fz_machine.specs.Asks.{bits_of}
 use Rattle.fz_machine.specs.declared.item.Item.{Item}
 use Rattle.fz_machine.specs.declared.phase.Phase.{Phase}
-use Rattle.fz_machine.specs.declared.phase.Phase.TheVariants.{Keys, KeysAgain, Holders, Values, ShortTargets, ShortWords, ShortKeys, ShortKeyWords, ShortCleanups, Objects, Children, Again, LateAgain, LongTargets, LongWords, LongKeys, LongKeyWords, LongCleanups, ShortHolders, LongHolders, ShortKeyHolders, LongKeyHolders}
+use Rattle.fz_machine.specs.declared.phase.Phase.TheVariants.{Keys, KeysAgain, Holders, Values, ShortTargets, ShortWords, ShortKeys, ShortKeyWords, ShortCleanups, Objects, Children, Again, Picks, LateAgain, LongTargets, LongWords, LongKeys, LongKeyWords, LongCleanups, ShortHolders, LongHolders, ShortKeyHolders, LongKeyHolders}
 
 -- the phases that keep the items whose answers are false, and change nothing else
 abbrev pub keeps_unmarked : Phase → Bool
@@ -27,6 +27,7 @@ keeps_marked phase = false
 -- the phases that keep all items, and change nothing else
 abbrev pub keeps_all : Phase → Bool
 keeps_all Children = true
+keeps_all Picks = true
 keeps_all phase = false
 
 -- the phases that ask about each item that isn't known, and keep those that are

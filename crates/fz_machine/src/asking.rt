@@ -39,7 +39,7 @@ fn act(finalizers: &mut Finalizers, phase: Phase, item: Item, yes: bool)
         Phase::ShortKeyHolders | Phase::LongKeyHolders if !yes => {
             finalizers.end_ephemeron(item.word);
         }
-        Phase::Picks if item.kind != Kind::Unreachable => {
+        Phase::Entries if item.kind != Kind::Unreachable => {
             finalizers.queue(item.object);
         }
         Phase::LatePicks => {
@@ -139,7 +139,7 @@ fn keeps_all(phase: Phase) -> bool
     ensures { result ≡ keeps_all phase }
 {
     match phase {
-        Phase::Children => true,
+        Phase::Children | Phase::Picks => true,
         _ => false,
     }
 }

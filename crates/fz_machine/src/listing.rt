@@ -356,8 +356,9 @@ pub(crate) fn begin(finalizers: &Finalizers, walk: &mut Walk, phase: Phase)
             walk_off(finalizers, Some(LinkKind::Short), walk);
         }
         Phase::LongKeys | Phase::LongKeyHolders => walk_off(finalizers, Some(LinkKind::Long), walk),
-        Phase::Picks => walk.again_in_turn(),
-        Phase::ShortWords | Phase::ShortKeyWords | Phase::Children => walk.again(),
+        Phase::Children => walk.again_grouped(),
+        Phase::Entries => walk.again_in_turn(),
+        Phase::ShortWords | Phase::ShortKeyWords | Phase::Picks => walk.again(),
         Phase::LatePicks | Phase::LongWords | Phase::LongKeyWords => walk.again(),
         _ => {}
     }

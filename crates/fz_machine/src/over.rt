@@ -8,13 +8,12 @@ ghost use Rattle.fz_pass.specs.Marks.{IsClosed};
 ghost use Rattle.fz_machine.specs.declared.item.Item.{Item};
 ghost use Rattle.fz_machine.specs.declared.pass.Next.{Next};
 ghost use Rattle.fz_machine.specs.declared.phase.Phase.{Phase};
-ghost use Rattle.fz_machine.specs.Asks.{bits_of};
 ghost use Rattle.fz_machine.specs.Causes.{IsJudgedBy};
 ghost use Rattle.fz_machine.specs.Graph.{IsTrueWord, MayBegin, graph_of};
-ghost use Rattle.fz_machine.specs.Machines.{Tells, next_of};
-ghost use Rattle.fz_machine.specs.Responds.{IsAbout, Responds};
+ghost use Rattle.fz_machine.specs.Machines.{KeepsNotes, Tells, next_of};
+ghost use Rattle.fz_machine.specs.Responds.{AnswersHonestly, IsAbout, Responds};
 ghost use Rattle.fz_machine.specs.Regions.{place_in};
-ghost use Rattle.fz_machine.specs.Runs.{AreAskable, AreHonest};
+ghost use Rattle.fz_machine.specs.Runs.{AreAskable};
 
 use crate::machine::Machine;
 use crate::pass::Step;
@@ -29,7 +28,7 @@ use fz_pass::{Host, Values};
 fn answers<H: Values>(host: &mut H, ask: Ask, about: &[Addr]) -> u64
     requires few { length about.now ≤ 64 }
     requires asked { (phase : Phase) × (items : List Item) × IsAbout H.is_exact H.place H.value phase ask about.now items (graph_of (H.objects host.old) (H.marked host.old)) }
-    ensures honest { (phase : Phase) (items : List Item) → IsAbout H.is_exact H.place H.value phase ask about.now items (graph_of (H.objects host.old) (H.marked host.old)) → AreHonest H.is_exact H.place H.value phase (take (length about.now) (bits_of result)) items (graph_of (H.objects host.old) (H.marked host.old)) (graph_of (H.objects host.new) (H.marked host.new)) }
+    ensures honest { AnswersHonestly H.is_exact H.place H.value ask about.now result (graph_of (H.objects host.old) (H.marked host.old)) (graph_of (H.objects host.new) (H.marked host.new)) }
     ensures same { H.is_same host.old host.new }
 {
     let mut bits = 0;
@@ -91,6 +90,7 @@ impl Machine {
         ensures refused { OnErr result ((self.new ≡ self.old) × (host.new ≡ host.old)) }
         ensures passes { OnOk result (PassesWhole H.is_exact H.place H.value self.old.finalizers.state (H.objects host.old) (H.marked host.old) self.new.finalizers.state (H.objects host.new) (H.marked host.new)) }
         ensures idle { OnOk result (self.new.phase ≡ None) }
+        ensures regions { OnOk result (KeepsNotes self.old self.new) }
         ensures pass { IfOk result (λ passed. passed.pass ≡ next_pass self.old.finalizers.passes) }
         ensures picked { IfOk result (λ passed. length self.new.finalizers.queue ≡ length self.old.finalizers.queue + passed.picked) }
         // Marked objects stay marked, and everything that they reach is marked.

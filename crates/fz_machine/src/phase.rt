@@ -99,7 +99,7 @@ impl Sweep {
     }
 }
 
-/// A phase of a pass. It processes a list, and asks the same about each item of it.
+/// A phase of a pass. It processes a list, and asks about its items, mostly the same about each.
 #[derive(Clone, Copy, Debug, PartialEq, Eq)]
 pub enum Phase {
     /// Asks which keys of ephemerons are marked, and puts off the others: of all at the first moment, and later of those that are put off.
@@ -128,8 +128,10 @@ pub enum Phase {
     Children,
     /// Asks which of these objects are marked now.
     Again,
-    /// Queues those that are still unmarked, by rank, then address, except those of kind `Unreachable`.
+    /// Marks those that are still unmarked, except those of kind `Unreachable`.
     Picks,
+    /// Queues them, by rank, then address. It asks nothing.
+    Entries,
     /// Asks which objects of kind `Unreachable` are marked now.
     LateAgain,
     /// Queues those that are still unmarked.
@@ -165,7 +167,7 @@ fn child_ask(kind: Kind) -> Option<Ask>
     }
 }
 
-/// The command that marks a queued object.
+/// The command that marks an object that is to be queued.
 fn pick_ask(kind: Kind) -> Option<Ask>
     ensures { result ≡ pick_ask kind }
 {
@@ -195,7 +197,8 @@ impl Phase {
             Phase::Objects => Some(Phase::Children),
             Phase::Children => Some(Phase::Keys(Moment::Led)),
             Phase::Again => Some(Phase::Picks),
-            Phase::Picks => Some(Phase::Keys(Moment::Picked)),
+            Phase::Picks => Some(Phase::Entries),
+            Phase::Entries => Some(Phase::Keys(Moment::Picked)),
             Phase::LateAgain => Some(Phase::LatePicks),
             Phase::LatePicks => Some(Phase::Keys(Moment::Last)),
             Phase::LongTargets => Some(Phase::LongWords),
@@ -264,6 +267,7 @@ impl Phase {
             Phase::ShortKeyWords | Phase::LongKeyWords => Some(Ask::Clear),
             Phase::Children => child_ask(item.kind),
             Phase::Picks => pick_ask(item.kind),
+            Phase::Entries => None,
             Phase::LatePicks => Some(Ask::MarkAlone),
             Phase::ShortHolders | Phase::LongHolders => Some(Ask::IsHolderMarked),
             Phase::ShortKeyHolders | Phase::LongKeyHolders => Some(Ask::IsHolderMarked),
@@ -304,8 +308,8 @@ impl Phase {
             Phase::ShortTargets | Phase::LongTargets => !yes,
             Phase::ShortKeys | Phase::LongKeys => !yes,
             Phase::Objects | Phase::Again | Phase::LateAgain => !yes,
-            Phase::Children => true,
-            Phase::Picks => item.kind == Kind::Unreachable,
+            Phase::Children | Phase::Picks => true,
+            Phase::Entries => item.kind == Kind::Unreachable,
             Phase::Values(_) | Phase::Regions(_) => false,
             Phase::ShortWords | Phase::LongWords | Phase::LatePicks => false,
             Phase::ShortKeyWords | Phase::LongKeyWords => false,

@@ -6,7 +6,7 @@ ghost use Rattle.std.specs.List.{prefix_len, take_while};
 ghost use Rattle.fz_machine.specs.declared.item.Item.{Item};
 ghost use Rattle.fz_machine.specs.Asks.{bits_of};
 ghost use Rattle.fz_machine.specs.Going.{KeepsBeside};
-ghost use Rattle.fz_machine.specs.Items.{AreInTurn, place_of};
+ghost use Rattle.fz_machine.specs.Items.{AreGrouped, AreInTurn, group_of, place_of};
 ghost use Rattle.fz_machine.specs.Off.{TellsOff, all_off, count_off, looked_at, looking, looks_again, none_off, stuck_with};
 ghost use Rattle.fz_machine.specs.Phases.{settles};
 ghost use Rattle.fz_machine.specs.Sifts.{chosen};
@@ -15,6 +15,7 @@ use crate::answers::choose;
 use crate::item::Item;
 use crate::phase::Phase;
 use crate::rows::{Rows, make_room};
+use fz_finalizers::Kind;
 use fz_model::Addr;
 use std::alloc::{AllocError, Global};
 use std::marker::Model;
@@ -59,6 +60,18 @@ fn place_of(item: &Item) -> u128
     ensures { result ≡ place_of item.now }
 {
     u128::from(item.turn) * 0x1_0000_0000_0000_0000 + u128::from(item.object)
+}
+
+/// A kind's sort key, which puts kinds of which the same is asked beside each other.
+fn group_of(kind: Kind) -> u8
+    ensures { result ≡ group_of kind }
+{
+    match kind {
+        Kind::Unreachable => 0,
+        Kind::Normal => 1,
+        Kind::IgnoreSelf => 2,
+        Kind::NoOrder => 3,
+    }
 }
 
 impl Walk {
@@ -376,6 +389,18 @@ impl Walk {
         self.items.truncate(self.kept);
         self.kept = 0;
         self.place = 0;
+    }
+
+    /// Starts again with the kept items, sorted by the groups of their kinds.
+    pub(crate) fn again_grouped(&mut self)
+        ensures kept { self.new.kept ≡ [] }
+        ensures left { AreGrouped self.old.kept self.new.left }
+        ensures others { self.new ≡ record self.old { kept = []; left = self.new.left } }
+    {
+        self.items.truncate(self.kept);
+        self.kept = 0;
+        self.place = 0;
+        self.items.sort_unstable_by_key(|item| group_of(item.kind));
     }
 
     /// Starts again with the kept items, sorted by position in queue order, then address.

@@ -1,10 +1,12 @@
 use Rattle.std.proofs.Common.{◌≡◌, ◌∙◌, [], Bool, List, take, refl, sym, ap, subst}
 use Rattle.fz_finalizers.specs.Follows.{next_pass}
 use Rattle.fz_machine.specs.Asks.{bits_of}
+use Rattle.fz_machine.specs.Going.{AreFewer}
 use Rattle.fz_machine.specs.Graph.{graph_of}
 use Rattle.fz_machine.specs.Machines.{Answers, next_of}
 use Rattle.fz_machine.specs.Runs.{AreHonest, Begun, Goes}
 use Rattle.fz_machine.proofs.Askable.{asks_on}
+use Rattle.fz_machine.proofs.Asked.{fewer_twice}
 use Rattle.fz_machine.proofs.Ran.{none_old}
 use Rattle.fz_machine.proofs.Truly.{IsAlone, fits_asked, fits_begun, goes_alone, itself_alone, leaves_less, made_flags, made_single, pass_ends}
 use Rattle.fz_machine.proofs.machine.Machine.pass_over.Goals as goal
@@ -28,6 +30,7 @@ loop-step-init g c =
       before = goes.before ∙ is.before;
       fits = fits_asked old.finalizers.state begun c.next_bits.new.self (take begun.asked (bits_of 0)) (next_of c.in_ok-step.step c.next_bits.new.about) none (fits_begun old.finalizers.state 0 old begun refl is) goes;
       alone = goes_alone _ begun c.next_bits.new.self (Answers (take begun.asked (bits_of 0))) (next_of c.in_ok-step.step c.next_bits.new.about) goes (subst (IsAlone (record old.finalizers.state { passes = next_pass old.finalizers.passes })) (sym is.finalizers) (itself_alone _));
+      regions = (goes.by ∙ is.same.0, goes.noted ∙ is.same.1, subst (λ ns. AreFewer ns c.next_bits.new.self.tabled) is.same.2 goes.tabled);
       same = g.met.H.Host.reflexive c.args.host.now;
     }
 
@@ -54,6 +57,9 @@ loop-step-preserved g c =
       before = r.goes.before ∙ c.loop-step.invariant.before;
       fits = (leaves_less c.args.self.now.finalizers.state c.loop-step.self c.answer.new.self r.heard (next_of c.in_ok-step-in-Asks.step c.answer.new.about) (next_of c.loop-step.step c.loop-step.about) c.loop-step.invariant.tells c.loop-step.invariant.fits r.goes r.advances).fits;
       alone = goes_alone _ c.loop-step.self c.answer.new.self r.heard (next_of c.in_ok-step-in-Asks.step c.answer.new.about) r.goes c.loop-step.invariant.alone;
+      regions =
+          let so_far = c.loop-step.invariant.regions in
+          (r.goes.by ∙ so_far.0, r.goes.noted ∙ so_far.1, fewer_twice c.args.self.now.tabled c.loop-step.self.tabled c.answer.new.self.tabled so_far.2 r.goes.tabled);
       same = g.met.H.Host.transitive c.args.host.now c.loop-step.host c.answer.new.host c.loop-step.invariant.same c.answer.ensures.same;
     }
 

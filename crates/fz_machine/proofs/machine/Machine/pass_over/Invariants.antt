@@ -2,7 +2,7 @@
 use Rattle.std.proofs.Common.{◌≡◌, length}
 use Rattle.fz_finalizers.specs.Follows.{next_pass}
 use Rattle.fz_machine.specs.Graph.{graph_of}
-use Rattle.fz_machine.specs.Machines.{IsBegun, Machine, Tells, next_of}
+use Rattle.fz_machine.specs.Machines.{IsBegun, KeepsNotes, Machine, Tells, next_of}
 use Rattle.fz_machine.specs.Runs.{Runs}
 use Rattle.fz_machine.proofs.Truly.{Fits, IsAlone, left_to_answer}
 use Rattle.fz_machine.proofs.machine.Machine.pass_over.Given as goal
@@ -15,6 +15,7 @@ invariant-loop-step g l = record {
   before : l.self.before ≡ length l.fn.self.finalizers.queue;
   fits : Fits l.fn.self.finalizers.state l.self.finalizers.state;
   alone : IsAlone (record l.fn.self.finalizers.state { passes = next_pass l.fn.self.finalizers.passes }) l.self.finalizers.state;
+  regions : KeepsNotes l.fn.self l.self;
   same : g.H.Host.is_same l.fn.host l.host;
 }
 
