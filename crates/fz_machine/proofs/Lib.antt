@@ -52,6 +52,7 @@ pub mod Ran
 pub mod Fewer
 pub mod Spent
 pub mod Unasked
+pub mod Batches
 pub mod Called
 pub mod Rowed
 pub mod Askable

@@ -186,12 +186,20 @@ module _ (phase : Phase) where
   kept_within : (g : Going) → length (skip phase g).kept ≤ length g.kept + length g.left
   kept_within g = kept_skipped g.left g.finalizers g.kept g.aside g.off g.told
 
-  all_unasked : (g : Going) → (skip phase g).left ≡ [] → Each (λ (i : Item). is_some (asks phase i) ≡ false) g.left
+  pub all_unasked : (g : Going) → (skip phase g).left ≡ [] → Each (λ (i : Item). is_some (asks phase i) ≡ false) g.left
   all_unasked g none = none_asked g.left g.finalizers g.kept g.aside g.off g.told none
 
 unasked_known : (b : Bool) (ask : Ask) → is_some (cond b None (Some ask)) ≡ false → b ≡ true
 unasked_known true ask is = refl
 unasked_known false ask is = absurd (true≢false is)
+
+-- ---- where a pass stops
+
+-- a question about items isn't about those of which all is noted
+pub stops_at : (m : Machine) (next : Next) → Tells m next → (sweep : Sweep) → m.phase ≡ Some (swept sweep) → is_noted sweep m ≡ false
+stops_at m (told.Asks question) (phase, was, inl items) sweep at = items.others sweep (same_Some phase (swept sweep) (sym was ∙ at))
+stops_at m (told.Asks question) (phase, was, inr regions) sweep at = absurd (true≢false (sym (ap is_sweep regions.is) ∙ ap is_sweep (same_Some phase (swept sweep) (sym was ∙ at)) ∙ swept_no_sweep sweep))
+stops_at m (told.Ended passed) (none, same, picked) sweep at = absurd (none-some (swept sweep) (sym none ∙ at))
 
 -- ---- what the phases behind sweeps about objects list
 
@@ -363,12 +371,6 @@ module _ (E : Type 0) (word_of : ℕ → Option ℕ) (value : Map Object → ℕ
     noted_stays begun m h (Goes {m = old} {g = q} heard goes runs honest) = goes.noted ∙ noted_stays begun old q runs
     noted_stays begun m h (Meanwhile {m = old} worked runs) = ap (λ (k : Machine). k.noted) worked.keeps ∙ noted_stays begun old h runs
     noted_stays begun m h (Told {m = old} key tells runs) = ap (λ (k : Machine). k.noted) tells.same ∙ noted_stays begun old h runs
-
-    -- a question about items isn't about those of which all is noted
-    stops_at : (m : Machine) (next : Next) → Tells m next → (sweep : Sweep) → m.phase ≡ Some (swept sweep) → is_noted sweep m ≡ false
-    stops_at m (told.Asks question) (phase, was, inl items) sweep at = items.others sweep (same_Some phase (swept sweep) (sym was ∙ at))
-    stops_at m (told.Asks question) (phase, was, inr regions) sweep at = absurd (true≢false (sym (ap is_sweep regions.is) ∙ ap is_sweep (same_Some phase (swept sweep) (sym was ∙ at)) ∙ swept_no_sweep sweep))
-    stops_at m (told.Ended passed) (none, same, picked) sweep at = absurd (none-some (swept sweep) (sym none ∙ at))
 
     module _ (first : Machine) (same : first.from ≡ begin.from) (starts : ran.IsAt E word_of value b before begin first before) (all : (sweep : Sweep) → noted sweep ≡ is_noted sweep first) where
       few_ran : (m : Machine) (h : Graph) (runs : Runs E word_of value first before m h) → IsHere 0 first → IsHere (answered runs) m

@@ -1,6 +1,6 @@
 -- Runs of a pass over a graph, and their result.
 -- code: fz_machine/src/law.rt
-use Rattle.std.specs.Prelude.{◌≡◌, ◌≤◌, ◌+◌, ◌*◌, ◌&&◌, ℕ, Bool, not, if◌then◌else◌, List, [], ◌∷◌, length, zip, Option, None, Some, IsTrue}
+use Rattle.std.specs.Prelude.{◌≡◌, ◌≤◌, ◌+◌, ◌*◌, ◌&&◌, ℕ, zero, suc, Bool, true, not, if◌then◌else◌, List, [], ◌∷◌, length, zip, Option, None, Some, IsTrue}
 use Rattle.std.specs.FinMap.{len, retain_keys}
 use Rattle.fz_model.specs.State.{Map, Object}
 use Rattle.fz_pass.specs.Holds.{no_ephemerons}
@@ -11,7 +11,7 @@ use Rattle.fz_finalizers.specs.States.{State}
 use Rattle.fz_machine.specs.declared.item.Item.{Item}
 use Rattle.fz_machine.specs.declared.pass.Next.{Next}
 use Rattle.fz_machine.specs.declared.phase.Phase.{Phase}
-use Rattle.fz_machine.specs.declared.phase.Phase.TheVariants.{Regions}
+use Rattle.fz_machine.specs.declared.phase.Phase.TheVariants.{Regions, ShortKeys, ShortKeyWords, LongKeys, LongKeyWords, ShortKeyHolders, LongKeyHolders}
 use Rattle.fz_machine.specs.declared.phase.Sweep.{Sweep}
 use Rattle.fz_machine.specs.declared.phase.Sweep.TheVariants as sweeps
 use Rattle.fz_machine.specs.Going.{ephemerons_in}
@@ -19,7 +19,7 @@ use Rattle.fz_machine.specs.Graph.{AreHonestWords, AreOldMarked, Graph, IsHonest
 use Rattle.fz_machine.specs.Heard.{most_rows}
 use Rattle.fz_machine.specs.Regions.{IsOfSweep}
 use Rattle.fz_machine.specs.Machines.{Machine, Heard, Answers, Words, IsBegun, IsBegunFrom, GoesTo, IsTold, IsWorked, Works, is_noted}
-use Rattle.fz_machine.specs.Phases.{ask_of, subject, sweep_ask}
+use Rattle.fz_machine.specs.Phases.{ask_of, settles, subject, sweep_ask}
 
 -- true answers about the first items, one after another, while the graph changes; also about an item that isn't asked about since it is known
 abbrev pub AreHonest : Type 0 → (ℕ → Option ℕ) → (Map Object → ℕ → Option ℕ) → Phase → List Bool → List Item → Graph → Graph → Type 0
@@ -117,6 +117,35 @@ answered (Goes heard goes runs honest) = answered runs + answers_in heard
 answered (Meanwhile worked runs) = answered runs
 answered (Told key tells runs) = answered runs
 
+-- whether a phase asks about ephemerons
+abbrev pub is_of_rows : Phase → Bool
+is_of_rows ShortKeys = true
+is_of_rows ShortKeyWords = true
+is_of_rows LongKeys = true
+is_of_rows LongKeyWords = true
+is_of_rows ShortKeyHolders = true
+is_of_rows LongKeyHolders = true
+is_of_rows phase = settles phase
+
+-- a question about registrations, links or cleanups counts, if there was one
+abbrev pub one_question : Phase → ℕ → ℕ
+one_question phase zero = 0
+one_question phase (suc asked) = if is_of_rows phase then 0 else 1
+
+-- the number of questions about registrations, links and cleanups that a run has answered
+abbrev pub questions : {Exact : Type 0} {place : ℕ → Option ℕ} {value : Map Object → ℕ → Option ℕ} {begun : Machine} {before : Graph} {m : Machine} {g : Graph} → Runs Exact place value begun before m g → ℕ
+questions Begun = 0
+questions (Goes {m = m} heard goes runs honest) = questions runs + one_question goes.phase m.asked
+questions (Meanwhile worked runs) = questions runs
+questions (Told key tells runs) = questions runs
+
+-- each question about items was answered whole
+abbrev pub AreWhole : {Exact : Type 0} {place : ℕ → Option ℕ} {value : Map Object → ℕ → Option ℕ} {begun : Machine} {before : Graph} {m : Machine} {g : Graph} → Runs Exact place value begun before m g → Type 0
+AreWhole Begun = Unit {0}
+AreWhole (Goes {m = m} heard goes runs honest) = AreWhole runs × (answers_in heard ≡ m.asked)
+AreWhole (Meanwhile worked runs) = AreWhole runs
+AreWhole (Told key tells runs) = AreWhole runs
+
 -- at most this many are about links of a kind: if all their targets are noted, one about each link whose target isn't marked, and else two about each link; and if
 -- not all their words are noted, one more about each
 abbrev pub most_about_links : Bool → Bool → (ℕ → Bool) → Map ℕ → ℕ
@@ -134,3 +163,10 @@ abbrev pub CostsUnmarked : Type 0 → Type 0
 CostsUnmarked Exact = (from : ℕ) (place : ℕ → Option ℕ) (value : Map Object → ℕ → Option ℕ) (old begun new : Machine) (past : Past) (before after : Graph)
     → IsReached old.finalizers.state past → IsBegunFrom from old begun → MayBegin place value old.finalizers.state before → AreOldMarked from old.finalizers.state before → (run : Runs Exact place value begun before new after)
     → answered run ≤ most_unmarked (λ sweep. is_noted sweep old) before.marked old.finalizers.state
+
+-- each of its questions about registrations, links and cleanups but 16 is about 64 items: the last one of each of 12 phases isn't, and of two phases in which
+-- one of two things is asked about an item, the last one of each
+abbrev pub AsksBatches : Type 0 → Type 0
+AsksBatches Exact = (from : ℕ) (place : ℕ → Option ℕ) (value : Map Object → ℕ → Option ℕ) (old begun new : Machine) (past : Past) (before after : Graph)
+    → IsReached old.finalizers.state past → IsBegunFrom from old begun → MayBegin place value old.finalizers.state before → AreOldMarked from old.finalizers.state before → (run : Runs Exact place value begun before new after) → AreWhole run
+    → 64 * questions run ≤ most_unmarked (λ sweep. is_noted sweep old) before.marked old.finalizers.state + 64 * 16

@@ -1,7 +1,7 @@
 //! The result of a run of questions and answers.
 
 ghost use Rattle.fz_machine.specs.Heard.{PassesAreCalls, PassesEnd, RegionQuestionsEnd};
-ghost use Rattle.fz_machine.specs.Runs.{AsksRightly, AsksYoungRightly, CostsUnmarked, RunsPass, RunsPlainPass, RunsYoungPass, RunsYoungPlainPass};
+ghost use Rattle.fz_machine.specs.Runs.{AsksBatches, AsksRightly, AsksYoungRightly, CostsUnmarked, RunsPass, RunsPlainPass, RunsYoungPass, RunsYoungPlainPass};
 
 /// A run whose answers are true of a graph carries out the model's pass, as `Finalizers::pass_with_ephemerons` does. Entries that are taken and finished
 /// between its questions might as well be taken and finished after the pass. What the host tells by `Machine::key_marked` need not be true.
@@ -50,6 +50,15 @@ pub fn region_questions_end()
 pub fn marked_items_cost_no_answers()
     ensures unmarked { CostsUnmarked (Unit {0}) }
     ensures unmarked_of_more { CostsUnmarked ⊥ }
+{}
+
+/// Questions are about 64 items each, but for few: kinds of which the same is asked come together. If each question is answered whole, and if the words and
+/// answers are true of a graph, at most 16 questions about registrations, links and cleanups are about fewer than 64. So a pass of a machine with regions asks
+/// at most `u / 64 + 16` of them, where `u` is the number of answers that `marked_items_cost_no_answers` has. Each question about ephemerons is about one at
+/// least, and `region_questions_end` bounds those about regions.
+pub fn questions_are_about_64_items()
+    ensures asked { AsksBatches (Unit {0}) }
+    ensures asked_of_more { AsksBatches ⊥ }
 {}
 
 /// Whatever the host answers and tells, a pass consists of calls of the finalizers that take and finish nothing, even if it is abandoned. So what
