@@ -57,8 +57,8 @@ pub fn marked_items_cost_no_answers()
 /// at most `u / 64 + 16` of them, where `u` is the number of answers that `marked_items_cost_no_answers` has. Each question about ephemerons is about one at
 /// least, and `region_questions_end` bounds those about regions.
 pub fn questions_are_about_64_items()
-    ensures asked { AsksBatches (Unit {0}) }
-    ensures asked_of_more { AsksBatches ⊥ }
+    ensures batched { AsksBatches (Unit {0}) }
+    ensures batched_of_more { AsksBatches ⊥ }
 {}
 
 /// Whatever the host answers and tells, a pass consists of calls of the finalizers that take and finish nothing, even if it is abandoned. So what

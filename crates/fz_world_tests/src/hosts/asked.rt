@@ -468,6 +468,61 @@ fn lists_are_longer_than_questions(rt: HostRuntime) {
     }
 }
 
+/// A thousand objects of all four kinds, of which no two neighbours have the same, with three ranks.
+fn a_thousand_of_all_kinds(rt: &impl Abort, alloc: Global) -> Machine {
+    let mut machine = Machine::new(alloc).expect(rt, "memory");
+    for object in 1..=1_000 {
+        let finalizer = Finalizer {
+            kind: match object % 4 {
+                0 => Kind::Normal,
+                1 => Kind::IgnoreSelf,
+                2 => Kind::NoOrder,
+                _ => Kind::Unreachable,
+            },
+            procedure: object,
+            client_data: 0,
+            rank: (object % 3) as u8,
+        };
+        machine.register(object, finalizer).expect(rt, "memory");
+    }
+    machine
+}
+
+/// How many questions a pass asks in which no object is marked.
+fn questions_of_unmarked(rt: &impl Abort, machine: &mut Machine) -> usize {
+    machine.begin().expect(rt, "no other pass");
+    for questions in 0..1_000 {
+        let next = machine.next(&[false; BATCH]).expect(rt, "an open pass");
+        if matches!(next, Next::Ended(_)) {
+            return questions;
+        }
+    }
+    1_000
+}
+
+/// Takes the entries of one rank, of objects of the kind unreachable or of the others, by address.
+fn take_of_rank(rt: &impl Abort, machine: &mut Machine, rank: u64, late: bool) {
+    for object in 1..=1_000 {
+        if object % 3 == rank && (object % 4 == 3) == late {
+            take_of(rt, machine, object);
+        }
+    }
+}
+
+#[test]
+fn kinds_that_alternate_take_no_more_questions(rt: HostRuntime) {
+    let mut machine = a_thousand_of_all_kinds(&rt, rt.alloc());
+    // Objects 16; children 8 and 4; again 16; picks 8 and 4; those of the kind unreachable 4 and 4.
+    let questions = questions_of_unmarked(&rt, &mut machine);
+    must_be(&rt, questions, 64, "one for each 64 of a group");
+    for late in [false, true].iter() {
+        for rank in 0..3 {
+            take_of_rank(&rt, &mut machine, rank, *late);
+        }
+    }
+    must_be(&rt, machine.take().is_none(), true, "each once");
+}
+
 /// A worker between two questions: it takes an entry, the second one as finished, and finishes one that it took before.
 fn works(rt: &impl Abort, machine: &mut Machine, held: &mut Vec<Option<Entry>>) {
     let (waited, taken) = (machine.finalizers().waiting(), held.len());
@@ -497,9 +552,13 @@ fn works(rt: &impl Abort, machine: &mut Machine, held: &mut Vec<Option<Entry>>) 
 #[test]
 fn a_worker_works_in_an_open_pass(rt: HostRuntime) {
     let mut machine = Machine::new(rt.alloc()).expect(&rt, "memory");
-    for object in 1..=20 {
+    for object in 1..=40 {
         let finalizer = Finalizer {
-            kind: Kind::Normal,
+            kind: if object > 20 {
+                Kind::Unreachable
+            } else {
+                Kind::Normal
+            },
             procedure: object,
             client_data: 0,
             rank: 0,
@@ -518,10 +577,10 @@ fn a_worker_works_in_an_open_pass(rt: HostRuntime) {
     }
     let ended = Passed {
         pass: 1,
-        picked: 20,
+        picked: 40,
     };
     must_be(&rt, passed, Some(ended), "all are picked");
-    must_be(&rt, held.len() > 10, true, "most are taken before the end");
+    must_be(&rt, held.len() > 30, true, "most are taken before the end");
 }
 
 /// Eighty objects, whose pass is abandoned after this many questions: what it has queued waits, and the next pass queues the others.
