@@ -124,7 +124,7 @@ static double bytes_finished(uint64_t n)
     return (double)(bytes - before);
 }
 
-/* kinds that alternate are asked about one by one, of one kind in batches */
+/* of one kind, or of two that alternate, which are asked about in two groups */
 static void register_all(uint64_t n, bool alternate)
 {
     for (uint64_t i = 0; i < n; i++) {
@@ -135,33 +135,39 @@ static void register_all(uint64_t n, bool alternate)
 
 static bool is_of_children(const derrimas_question *question) { return question->ask == DERRIMAS_ASK_MARK_CHILDREN || question->ask == DERRIMAS_ASK_MARK_OTHERS; }
 
-/* From the first question that has children marked to the one after the last. Nothing was marked before, and then all is. */
+static uint64_t questions_about(uint64_t n) { return (n + DERRIMAS_FINALIZERS_BATCH - 1) / DERRIMAS_FINALIZERS_BATCH; }
+
+/* From the call before the first question that has children marked, which sorts by kinds, to the question after the last. Nothing was marked before, and then all
+ * is. */
 static double children(uint64_t n, bool alternate)
 {
     derrimas_question question;
     derrimas_finalizers_passed passed;
     uint64_t answers = 0, asked = 0, questions = 0;
+    uint64_t wanted = alternate ? questions_about(n - n / 2) + questions_about(n / 2) : questions_about(n);
     double first = 0, t = 0;
 
     register_all(n, alternate);
     must(derrimas_finalizers_begin(&finalizers));
-    while (derrimas_finalizers_next(&finalizers, answers, &question, &passed) == DERRIMAS_FINALIZERS_OK) {
-        bool is_asked = is_of_children(&question);
-        if (is_asked && !asked)
+    for (;;) {
+        if (!asked)
             first = now();
+        if (derrimas_finalizers_next(&finalizers, answers, &question, &passed) != DERRIMAS_FINALIZERS_OK)
+            break;
+        bool is_asked = is_of_children(&question);
         if (!is_asked && asked && t == 0)
             t = now() - first;
         asked += is_asked ? question.count : 0;
         questions += is_asked;
         answers = asked ? UINT64_MAX : 0;
     }
-    if (asked != n || questions != (alternate ? n : (n + DERRIMAS_FINALIZERS_BATCH - 1) / DERRIMAS_FINALIZERS_BATCH) || passed.picked)
+    if (asked != n || questions != wanted || passed.picked)
         fail("other questions");
     return t;
 }
 
-static double one_by_one(uint64_t n) { return children(n, true); }
-static double in_batches(uint64_t n) { return children(n, false); }
+static double of_two_kinds(uint64_t n) { return children(n, true); }
+static double of_one_kind(uint64_t n) { return children(n, false); }
 
 /* A whole pass, whose objects are all marked, or all unmarked. Those are queued. Where all are marked, each is asked about once, or each region is; of a link so are
  * its target and its word. */
@@ -262,7 +268,7 @@ static const struct { const char *name; double (*turn)(uint64_t n); bool by_regi
     {"take_and_finish", taken, false}, {"bytes_registered", bytes_registered, false}, {"bytes_registered_by_regions", bytes_registered, true},
     {"bytes_finished", bytes_finished, false}, {"bytes_linked", bytes_linked, false}, {"bytes_linked_by_regions", bytes_linked, true},
     {"bytes_added", bytes_added, false},
-    {"one_by_one", one_by_one, false}, {"in_batches", in_batches, false}, {"live", live, false}, {"live_by_regions", live, true},
+    {"of_two_kinds", of_two_kinds, false}, {"of_one_kind", of_one_kind, false}, {"live", live, false}, {"live_by_regions", live, true},
     {"live_linked", live_linked, false}, {"live_linked_by_regions", live_linked, true},
     {"live_cleanups", live_cleanups, false}, {"live_cleanups_by_regions", live_cleanups, true}, {"queued", queued, false}, {"queued_cleanups", queued_cleanups, false}, {"roots", roots, false},
     {"live_ephemerons", live_ephemerons, false}, {"chained_ephemerons", chained_ephemerons, false},
