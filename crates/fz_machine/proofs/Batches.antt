@@ -34,7 +34,7 @@ use Rattle.fz_machine.proofs.Numbered.{same_ask}
 use Rattle.fz_machine.proofs.Phasing.{kept_on}
 use Rattle.fz_machine.proofs.Throughout.{heard_answers, heard_words}
 use Rattle.fz_machine.proofs.Turned.{is_sweep, swept_no_sweep}
-use Rattle.fz_machine.proofs.Unasked.{all_unasked, costs_unmarked, stops_at}
+use Rattle.fz_machine.proofs.Unasked.{all_unasked, stops_at}
 
 -- ---- runs of equal numbers
 
@@ -727,16 +727,13 @@ module _ (E : Type 0) (place : ℕ → Option ℕ) (value : Map Object → ℕ �
       subst (IsHere (questions run) (answered run)) (sym tells.same) (record { few = was.few; grouped = was.grouped; about = was.about; told = was.told; same = was.same })
 
 pub asks_batches : (E : Type 0) → AsksBatches E
-asks_batches E from place value old begun new past before after_it reached is may seen run whole =
-    let noted : Sweep → Bool = λ sweep. is_noted sweep old in
-    let all : (sweep : Sweep) → noted sweep ≡ is_noted sweep begun = λ sweep. ap (λ (bs : List Bool). is_noted sweep (record old { noted = bs })) (sym is.same.1) in
-    let few = costs_unmarked E from place value old begun new past before after_it reached is may seen run in
-    let start : IsHere E place value begun before noted all 0 0 begun = record {
+asks_batches E from place value old begun new before after_it is run whole =
+    let start : IsHere E place value begun before (λ sweep. is_noted sweep begun) (λ sweep. refl) 0 0 begun = record {
       few = subst (λ o. 64 * 0 + 64 * to_ask o begun.walk.left ≤ 0 + 64 * 16) (sym is.phase) (omega arith);
       grouped = λ p at. subst (λ (o : Phase). IsGroupedIn o (going_of begun)) (same_Some (Keys First) p (sym is.phase ∙ at)) tt;
       about = λ p at. inl is.asked;
       told = λ sweep at. absurd (true≢false (sym (ap is_sweep (same_Some (Keys First) (Regions sweep) (sym is.phase ∙ at)))));
       same = refl;
     } in
-    let end = (here E place value begun before noted all new after_it run whole start).few in
-    omega (arith, few, end)
+    let end = (here E place value begun before (λ sweep. is_noted sweep begun) (λ sweep. refl) new after_it run whole start).few in
+    omega (arith, end)

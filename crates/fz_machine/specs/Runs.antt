@@ -164,9 +164,9 @@ CostsUnmarked Exact = (from : ℕ) (place : ℕ → Option ℕ) (value : Map Obj
     → IsReached old.finalizers.state past → IsBegunFrom from old begun → MayBegin place value old.finalizers.state before → AreOldMarked from old.finalizers.state before → (run : Runs Exact place value begun before new after)
     → answered run ≤ most_unmarked (λ sweep. is_noted sweep old) before.marked old.finalizers.state
 
--- each of its questions about registrations, links and cleanups but 16 is about 64 items: the last one of each of 12 phases isn't, and of two phases in which
--- one of two things is asked about an item, the last one of each
+-- but for 16, there is a question about registrations, links or cleanups for each 64 answers at most: the last one of each of 12 phases may be about fewer items,
+-- and in two phases, where one of two things is asked about an item, the last one of each
 abbrev pub AsksBatches : Type 0 → Type 0
-AsksBatches Exact = (from : ℕ) (place : ℕ → Option ℕ) (value : Map Object → ℕ → Option ℕ) (old begun new : Machine) (past : Past) (before after : Graph)
-    → IsReached old.finalizers.state past → IsBegunFrom from old begun → MayBegin place value old.finalizers.state before → AreOldMarked from old.finalizers.state before → (run : Runs Exact place value begun before new after) → AreWhole run
-    → 64 * questions run ≤ most_unmarked (λ sweep. is_noted sweep old) before.marked old.finalizers.state + 64 * 16
+AsksBatches Exact = (from : ℕ) (place : ℕ → Option ℕ) (value : Map Object → ℕ → Option ℕ) (old begun new : Machine) (before after : Graph)
+    → IsBegunFrom from old begun → (run : Runs Exact place value begun before new after) → AreWhole run
+    → 64 * questions run ≤ answered run + 64 * 16

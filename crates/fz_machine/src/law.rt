@@ -52,10 +52,10 @@ pub fn marked_items_cost_no_answers()
     ensures unmarked_of_more { CostsUnmarked ⊥ }
 {}
 
-/// Questions are about 64 items each, but for few: kinds of which the same is asked come together. If each question is answered whole, and if the words and
-/// answers are true of a graph, at most 16 questions about registrations, links and cleanups are about fewer than 64. So a pass of a machine with regions asks
-/// at most `u / 64 + 16` of them, where `u` is the number of answers that `marked_items_cost_no_answers` has. Each question about ephemerons is about one at
-/// least, and `region_questions_end` bounds those about regions.
+/// Questions are full, but for few, since kinds of which the same is asked come together: a run whose questions are each answered whole has, for each 64 answers,
+/// at most one question about registrations, links and cleanups, and 16 more. So with `marked_items_cost_no_answers` a machine with regions asks at most
+/// `u / 64 + 16` of them, where `u` is the number of answers there. A question about ephemerons is about one at least, and `region_questions_end` bounds those
+/// about regions.
 pub fn questions_are_about_64_items()
     ensures batched { AsksBatches (Unit {0}) }
     ensures batched_of_more { AsksBatches ⊥ }
