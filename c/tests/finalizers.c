@@ -1194,10 +1194,21 @@ static void chance_graph(uint64_t seed)
     }
 }
 
-/* What a pass has done by its answers: it queued entries, by MARK and MARK_ALONE, and removed links, by CLEAR, and where the holder isn't marked. */
+/* What a pass has done by its answers: it marked what it will queue, by MARK and MARK_ALONE, and queued it, and removed links, by CLEAR, and where the holder isn't
+ * marked. It queues objects of the kind UNREACHABLE at once, and the others once all are marked: before it asks anything else. */
 struct done {
-    uint64_t queued, links;
+    uint64_t marked, queued, links;
 };
+
+static bool is_of_picks(const derrimas_question *question) { return question->ask == DERRIMAS_ASK_MARK || question->ask == DERRIMAS_ASK_MARK_ALONE; }
+
+static bool is_late(uint64_t object)
+{
+    derrimas_finalizers_registration_at registration;
+
+    OK(derrimas_finalizers_registration(&finalizers, object, &registration));
+    return registration.kind == DERRIMAS_FINALIZERS_UNREACHABLE;
+}
 
 /* How many links of a kind have words of which it is said that the holder isn't marked. Each of the two kinds has one question here, and the short ones come first. */
 static uint64_t not_live(derrimas_finalizers_link_kind kind, const derrimas_question *question)
@@ -1217,12 +1228,12 @@ static uint64_t not_live(derrimas_finalizers_link_kind kind, const derrimas_ques
 
 static struct done answered_with(const derrimas_question *question, uint64_t answers, unsigned *sweeps)
 {
-    struct done done = {0, 0};
+    struct done done = {0, 0, 0};
 
     if (question->ask == DERRIMAS_ASK_LIVE)
         done.links = not_live((*sweeps)++ ? DERRIMAS_FINALIZERS_LONG : DERRIMAS_FINALIZERS_SHORT, question);
-    if (question->ask == DERRIMAS_ASK_MARK || question->ask == DERRIMAS_ASK_MARK_ALONE)
-        done.queued = question->count;
+    if (is_of_picks(question))
+        *(is_late(question->what[0]) ? &done.queued : &done.marked) = question->count;
     if (question->ask == DERRIMAS_ASK_CLEAR)
         done.links = question->count;
     for (uint64_t i = 0; question->ask == DERRIMAS_ASK_HOLDER_IS_MARKED && i < question->count; i++)
@@ -1235,7 +1246,7 @@ static bool abandoned_after(uint64_t seed, uint64_t questions)
 {
     derrimas_finalizers_counts before, after;
     derrimas_question question;
-    struct done all_done = {0, 0}, done;
+    struct done all_done = {0, 0, 0}, done;
     uint64_t answers = 0;
     unsigned sweeps = 0;
 
@@ -1249,10 +1260,15 @@ static bool abandoned_after(uint64_t seed, uint64_t questions)
             closes();
             return false;
         }
+        if (!is_of_picks(&question)) {
+            all_done.queued += all_done.marked;
+            all_done.marked = 0;
+        }
         if (n + 1 == questions)
             break;
         answers = derrimas_host_answers(&procedures, &all, &question);
         done = answered_with(&question, answers, &sweeps);
+        all_done.marked += done.marked;
         all_done.queued += done.queued;
         all_done.links += done.links;
     }
