@@ -210,9 +210,10 @@ typedef enum derrimas_ask {
     DERRIMAS_ASK_IS_MARKED = 1,        /* is the object marked? */
     DERRIMAS_ASK_MARK_CHILDREN = 2,    /* mark the objects to which its words point, and all that those reach */
     DERRIMAS_ASK_MARK_OTHERS = 3,      /* the same, but without the words that point to the object itself */
-    DERRIMAS_ASK_MARK = 4,             /* mark the object and all that it reaches; the next call of .._next queues its entry */
+    DERRIMAS_ASK_MARK = 4,             /* mark the object and all that it reaches; its entry is queued once the objects of all
+                                        * entries are marked */
     DERRIMAS_ASK_MARK_ALONE = 5,       /* mark the object; all else that it reaches is marked already; its entry is queued
-                                        * likewise */
+                                        * likewise, or at once if it is of kind UNREACHABLE */
     DERRIMAS_ASK_CLEAR = 6,            /* write zero to the word; its link or ephemeron is removed */
     DERRIMAS_ASK_HOLDER_IS_MARKED = 7, /* is the object that contains the word marked, or does no object contain it? if the
                                         * answer is no at the end of a pass, its link or ephemeron is removed, and the word

@@ -17,9 +17,9 @@ pub enum Ask {
     MarkChildren,
     /// The same, but ignore words that point to the object itself.
     MarkOthers,
-    /// Mark the object and everything that it reaches: it is queued from now on.
+    /// Mark the object and everything that it reaches. It will be queued.
     Mark,
-    /// Mark the object; everything else that it reaches is marked already. It is queued from now on.
+    /// Mark the object; everything else that it reaches is marked already. It will be queued.
     MarkAlone,
     /// Set the word to zero: its link is removed.
     Clear,
