@@ -728,7 +728,8 @@ static void open_pass(void)
         walked(DERRIMAS_FINALIZERS_HELD_DATA, counted().waiting + counted().held);
         walked(DERRIMAS_FINALIZERS_REGISTERED_DATA, counted().registrations);
         IS(derrimas_finalizers_has_waiting(&finalizers), false);
-        works(&has);
+        for (size_t n = 0; n < 5; n++)
+            works(&has);
         IS(derrimas_finalizers_has_waiting(&finalizers), false);
         memset(&passed, 1, sizeof passed);
         if (derrimas_finalizers_next(&finalizers, answers, &question, &passed) != DERRIMAS_FINALIZERS_OK)
