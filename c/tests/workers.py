@@ -4,7 +4,7 @@ scope and of a program."""
 import os, subprocess, sys, threading, time
 HERE = os.path.dirname(os.path.abspath(__file__))
 sys.path.insert(0, os.path.normpath(os.path.join(HERE, '..', 'python')))
-from derrimas.finalizers import Finalizers, Refused
+from derrimas.finalizers import Finalizers, Kind, Refused
 from derrimas.workers import Workers
 checks, failures = 0, 0
 
@@ -113,7 +113,7 @@ def an_open_pass():
     finalizers, lock, ran = Finalizers(), threading.Lock(), []
     with Workers(finalizers, lock, lambda entry: ran.append(entry.obj), 2) as workers, lock:
         for number in range(1, 141):
-            finalizers.register(number, proc=0)
+            finalizers.register(number, proc=0, kind=Kind.UNREACHABLE if number > 70 else Kind.NORMAL)
         with finalizers.open_pass() as questions:
             while questions.next() and finalizers.counts().waiting < 10:
                 continue
