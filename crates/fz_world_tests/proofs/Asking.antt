@@ -2,18 +2,18 @@
 use Rattle.std.proofs.Common.{◌≡◌, ◌≤◌, ◌<◌, ◌+◌, ◌*◌, ◌^◌, ◌∙◌, ℕ, Bool, List, length, Option, Some, None, is_some, Result, Ok, Err, OnErr, OnOk, refl, sym, ap, subst, arith, IsTrue}
 use Rattle.std.proofs.Math.Logic.{∥∥₁_map}
 use Rattle.std.proofs.lemmas.Bool.{both_ways}
-use Rattle.std.specs.FinMap.{contains_key, get}
+use Rattle.std.specs.FinMap.{get}
 use Rattle.fz_model.specs.declared.answers.Entry.{Entry}
 use Rattle.fz_model.specs.State.{Map, Object}
 use Rattle.fz_pass.specs.Marks.{IsClosed}
-use Rattle.fz_finalizers.specs.Follows.{Event, Follows, Pass, Take}
+use Rattle.fz_finalizers.specs.Follows.{Event, Follows, Take}
 use Rattle.fz_finalizers.specs.Promises.{IsReached, Past, Then, with_event}
 use Rattle.fz_finalizers.specs.States.{State}
 use Rattle.fz_machine.specs.Graph.{MayBegin, graph_of}
 use Rattle.fz_machine.specs.Machines.{IsIdle, IsTaken, KeepsPass, Machine}
 use Rattle.own_heap.specs.declared.record.Record.{Record}
 use Rattle.own_heap.specs.Outside.{links_apart, place_of_link}
-use Rattle.own_heap.specs.Records.{address_of, objects_of, value_of}
+use Rattle.own_heap.specs.Records.{objects_of, value_of}
 use Rattle.own_heap.specs.Sound.{IsSound}
 use Rattle.own_heap.proofs.Cleared.{cleared_values}
 use Rattle.own_heap.proofs.Collected.{zero_nowhere}

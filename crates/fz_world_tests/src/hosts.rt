@@ -8,6 +8,7 @@ mod beside;
 mod cleanups;
 mod ephemerons;
 mod guardians;
+mod heaps;
 mod keyed_graphs;
 mod over;
 mod regions;

@@ -312,15 +312,23 @@ pub(crate) const ROWS: [&[Step]; 6] = [
     &NUMBERS_AND_RANKS,
 ];
 
-/// The steps of each row are carried out in a new heap.
+/// The steps of a row are carried out in a new heap.
+fn carry_out_row(rt: &impl Abort, alloc: Global, steps: &[Step]) {
+    let mut records = heap_of(rt, alloc);
+    for step in steps {
+        carry_out(rt, &mut records, *step);
+    }
+}
+
+fn carry_out_all(rt: &impl Abort, alloc: Global, rows: &[&[Step]]) {
+    for steps in rows {
+        carry_out_row(rt, alloc, steps);
+    }
+}
+
 #[test]
 fn cleanups_of_worked_rows(rt: HostRuntime) {
-    for steps in ROWS {
-        let mut records = heap_of(&rt, rt.alloc());
-        for step in steps {
-            carry_out(&rt, &mut records, *step);
-        }
-    }
+    carry_out_all(&rt, rt.alloc(), &ROWS);
 }
 
 /// How many ranks a random graph has.

@@ -1,9 +1,13 @@
 //! Tests of a heap with finalizers.
 
 use crate::equal::must_be;
-use fz_finalizers::{Finalizer, Kind, LinkKind, MoveAnswer, Old, Refused};
+use crate::hosts::heaps::{
+    add_root, fields, finish, heap_with, leads_to, link, made, picks, register, remove_root,
+    stands, taken, write,
+};
+use fz_finalizers::{Entry, Finalizer, Kind, LinkKind, MoveAnswer, Old, Refused};
 use own_heap::Field::{Hidden, Nothing, Number, Reference};
-use own_heap::{FIELDS, Field, OUTSIDE, RecordId, Runtime};
+use own_heap::{FIELDS, OUTSIDE, RecordId, Runtime};
 use std::process::Abort;
 use std::test::*;
 
@@ -17,107 +21,102 @@ fn normal(procedure: u64) -> Finalizer {
     }
 }
 
-/// A new record.
-fn made(rt: &impl Abort, runtime: &mut Runtime, fields: [Field; FIELDS]) -> RecordId {
-    runtime.make(fields).expect(rt, "a record")
+/// Three records, each of which but the leaf refers to the one before. The stem is registered, and the root hides it, too, by a link.
+#[derive(Clone, Copy)]
+struct Plant {
+    leaf: RecordId,
+    stem: RecordId,
+    root: RecordId,
 }
 
-/// Registers an existing record.
-fn register(rt: &impl Abort, runtime: &mut Runtime, id: RecordId, finalizer: Finalizer) {
-    if runtime.heap().stands(id) {
-        runtime.register(id, finalizer).expect(rt, "a finalizer");
-    }
+fn planted(rt: &impl Abort, runtime: &mut Runtime) -> Plant {
+    let leaf = made(rt, runtime, [Number(7), Nothing, Nothing, Nothing]);
+    let stem = made(rt, runtime, [Reference(leaf), Nothing, Nothing, Nothing]);
+    let words = [Reference(stem), Hidden(stem), Number(9), Nothing];
+    let root = made(rt, runtime, words);
+    add_root(rt, runtime, root);
+    register(rt, runtime, stem, normal(1));
+    link(rt, runtime, LinkKind::Short, root.word(1), stem);
+    picks(rt, runtime, 0, "all is reachable");
+    Plant { leaf, stem, root }
 }
 
-/// Makes the second field of a record a short link to an existing record.
-fn link(rt: &impl Abort, runtime: &mut Runtime, id: RecordId, target: RecordId) {
-    if runtime.heap().stands(target) {
-        runtime
-            .link(LinkKind::Short, id.word(1), target)
-            .expect(rt, "a link");
-    }
+/// The root lets go of the stem, whose entry is taken.
+fn stem_is_picked(rt: &impl Abort, runtime: &mut Runtime, plant: Plant) -> Entry {
+    write(runtime, plant.root, 0, Nothing);
+    picks(rt, runtime, 1, "the stem is picked");
+    must_be(
+        rt,
+        fields(runtime, plant.root),
+        Some([Nothing, Nothing, Number(9), Nothing]),
+        "the link is cleared, and the number stays",
+    );
+    let entry = taken(rt, runtime);
+    let want = (plant.stem.address(), 1);
+    must_be(rt, (entry.obj, entry.proc), want, "the stem's");
+    entry
 }
 
 #[test]
 fn the_record_of_a_taken_entry_stands_until_it_is_finished(rt: HostRuntime) {
-    let mut runtime = Runtime::new(rt.alloc(), 8).expect(&rt, "a runtime");
-    let leaf = made(&rt, &mut runtime, [Number(7), Nothing, Nothing, Nothing]);
-    let stem = made(
-        &rt,
-        &mut runtime,
-        [Reference(leaf), Nothing, Nothing, Nothing],
-    );
-    let root = made(
-        &rt,
-        &mut runtime,
-        [Reference(stem), Hidden(stem), Number(9), Nothing],
-    );
-    runtime.add_root(root).expect(&rt, "a root");
-    register(&rt, &mut runtime, stem, normal(1));
-    link(&rt, &mut runtime, root, stem);
-    must_be(&rt, runtime.collect().picked, 0, "all is reachable");
+    let mut runtime = heap_with(&rt, rt.alloc(), 8);
+    let plant = planted(&rt, &mut runtime);
+    let entry = stem_is_picked(&rt, &mut runtime, plant);
+    picks(&rt, &mut runtime, 0, "once");
+    stands(&rt, &runtime, plant.stem, true, "the stem stands");
+    stands(&rt, &runtime, plant.leaf, true, "the leaf stands");
 
-    runtime.set(root, 0, Nothing);
-    must_be(&rt, runtime.collect().picked, 1, "the stem is picked");
-    let left = runtime.heap().get(root).copied().map(|read| read.fields);
-    let number = [Nothing, Nothing, Number(9), Nothing];
-    must_be(
-        &rt,
-        left,
-        Some(number),
-        "the link is cleared, and the number stays",
-    );
-    let entry = runtime.take().expect(&rt, "an entry");
-    must_be(
-        &rt,
-        (entry.obj, entry.proc),
-        (stem.address(), 1),
-        "the stem's",
-    );
-    must_be(&rt, runtime.collect().picked, 0, "once");
-    must_be(&rt, runtime.heap().stands(stem), true, "the stem stands");
-    must_be(&rt, runtime.heap().stands(leaf), true, "the leaf stands");
+    finish(&rt, &mut runtime, &entry);
+    picks(&rt, &mut runtime, 0, "nothing is left");
+    stands(&rt, &runtime, plant.stem, false, "the stem is gone");
+    stands(&rt, &runtime, plant.leaf, false, "the leaf is gone");
+}
 
-    runtime.finish(&entry).expect(&rt, "the end");
-    must_be(&rt, runtime.collect().picked, 0, "nothing is left");
-    must_be(&rt, runtime.heap().stands(stem), false, "the stem is gone");
-    must_be(&rt, runtime.heap().stands(leaf), false, "the leaf is gone");
+/// The link of each kind at a word outside of the heap has to lead to this address.
+fn outside_leads_to(rt: &impl Abort, runtime: &Runtime, want: Option<u64>, what: &str) {
+    for kind in [LinkKind::Short, LinkKind::Long].iter() {
+        leads_to(rt, runtime, (*kind, OUTSIDE), want, what);
+    }
 }
 
 #[test]
 fn a_link_outside_of_the_heap_lives_as_long_as_its_record(rt: HostRuntime) {
-    let mut runtime = Runtime::new(rt.alloc(), 8).expect(&rt, "a runtime");
+    let mut runtime = heap_with(&rt, rt.alloc(), 8);
     let leaf = made(&rt, &mut runtime, [Number(7), Nothing, Nothing, Nothing]);
-    runtime.add_root(leaf).expect(&rt, "a root");
+    add_root(&rt, &mut runtime, leaf);
     for kind in [LinkKind::Short, LinkKind::Long].iter() {
-        if runtime.heap().stands(leaf) {
-            runtime.link(*kind, OUTSIDE, leaf).expect(&rt, "a link");
-        }
+        link(&rt, &mut runtime, *kind, OUTSIDE, leaf);
     }
-    runtime.collect();
-    runtime.collect();
-    for kind in [LinkKind::Short, LinkKind::Long].iter() {
-        let stays = runtime.target(*kind, OUTSIDE);
-        must_be(&rt, stays, Some(leaf.address()), "it stays");
-    }
-    must_be(&rt, runtime.pop_root(), Some(leaf), "the root");
-    runtime.collect();
-    for kind in [LinkKind::Short, LinkKind::Long].iter() {
-        must_be(&rt, runtime.target(*kind, OUTSIDE), None, "it goes, too");
-    }
+    picks(&rt, &mut runtime, 0, "a link isn't queued");
+    picks(&rt, &mut runtime, 0, "a link isn't queued");
+    outside_leads_to(&rt, &runtime, Some(leaf.address()), "it stays");
+    remove_root(&rt, &mut runtime, leaf);
+    picks(&rt, &mut runtime, 0, "a link isn't queued");
+    outside_leads_to(&rt, &runtime, None, "it goes, too");
+}
+
+/// Removes a record's registration, and compares the answer.
+fn unregisters(
+    rt: &impl Abort,
+    runtime: &mut Runtime,
+    id: RecordId,
+    want: Option<Old>,
+    what: &str,
+) {
+    must_be(rt, runtime.unregister(id), want, what);
 }
 
 #[test]
 fn a_registration_is_removed_once(rt: HostRuntime) {
-    let mut runtime = Runtime::new(rt.alloc(), 8).expect(&rt, "a runtime");
+    let mut runtime = heap_with(&rt, rt.alloc(), 8);
     let leaf = made(&rt, &mut runtime, [Nothing; FIELDS]);
-    must_be(&rt, runtime.unregister(leaf), None, "it has none");
+    unregisters(&rt, &mut runtime, leaf, None, "it has none");
     register(&rt, &mut runtime, leaf, normal(5));
     let old = Some(Old { proc: 5, cd: 0 });
-    must_be(&rt, runtime.unregister(leaf), old, "its own");
-    must_be(&rt, runtime.unregister(leaf), None, "once");
-    must_be(&rt, runtime.collect().picked, 0, "no finalizer");
-    must_be(&rt, runtime.heap().stands(leaf), false, "it is gone");
+    unregisters(&rt, &mut runtime, leaf, old, "its own");
+    unregisters(&rt, &mut runtime, leaf, None, "once");
+    picks(&rt, &mut runtime, 0, "no finalizer");
+    stands(&rt, &runtime, leaf, false, "it is gone");
 }
 
 /// Moves a link, and compares the answer.
@@ -138,13 +137,13 @@ fn unlinks(rt: &impl Abort, runtime: &mut Runtime, kind: LinkKind, word: u64, wa
 
 #[test]
 fn a_link_moves_and_goes(rt: HostRuntime) {
-    let mut runtime = Runtime::new(rt.alloc(), 8).expect(&rt, "a runtime");
+    let mut runtime = heap_with(&rt, rt.alloc(), 8);
     let leaf = made(&rt, &mut runtime, [Nothing; FIELDS]);
     let stem = made(&rt, &mut runtime, [Nothing; FIELDS]);
-    link(&rt, &mut runtime, stem, leaf);
-    link(&rt, &mut runtime, leaf, stem);
     let (from, other) = (stem.word(1), leaf.word(1));
     let (short, long) = (LinkKind::Short, LinkKind::Long);
+    link(&rt, &mut runtime, short, from, leaf);
+    link(&rt, &mut runtime, short, other, stem);
     let refused = Err(Refused::Zero);
     moves(&rt, &mut runtime, short, (from, 0), refused);
     let none = Ok(MoveAnswer::NotFound);
@@ -153,9 +152,9 @@ fn a_link_moves_and_goes(rt: HostRuntime) {
     moves(&rt, &mut runtime, short, (from, other), duplicate);
     let moved = Ok(MoveAnswer::Success);
     moves(&rt, &mut runtime, short, (from, OUTSIDE), moved);
-    must_be(&rt, runtime.target(short, from), None, "it left");
-    let at = runtime.target(short, OUTSIDE);
-    must_be(&rt, at, Some(leaf.address()), "the same target");
+    leads_to(&rt, &runtime, (short, from), None, "it left");
+    let target = Some(leaf.address());
+    leads_to(&rt, &runtime, (short, OUTSIDE), target, "the same target");
     unlinks(&rt, &mut runtime, long, OUTSIDE, false);
     unlinks(&rt, &mut runtime, short, OUTSIDE, true);
     unlinks(&rt, &mut runtime, short, OUTSIDE, false);

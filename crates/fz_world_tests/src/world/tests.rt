@@ -13,6 +13,7 @@ use fz_model::{
 };
 use fz_world::{Config, World};
 use std::alloc::Global;
+use std::process::Abort;
 
 /// A call and its expected result. All slots are in the first frame.
 #[derive(Clone, Copy)]
@@ -157,32 +158,68 @@ fn held(world: &mut World, slot: u64, place: usize) -> Result<(), Refusal> {
     world.hold(0, slot, &entry)
 }
 
-/// Whether a step returns the expected result.
-fn answers(world: &mut World, step: Step) -> bool {
-    match step {
+/// Whether a step that allocates, reads or writes words returns the expected result. None: it is another one.
+fn answers_on_words(world: &mut World, step: Step) -> Option<bool> {
+    Some(match step {
         New(slot, size, kind, want) => made(world, slot, size, kind) == want,
         Store(slot, word, from, want) => world.store(0, slot, word, 0, from) == want,
         Load(slot, word, to, want) => world.load(0, slot, word, 0, to) == want,
         Set(slot, word) => world.set(0, slot, word) == Ok(()),
+        _ => return None,
+    })
+}
+
+/// The same of a step that changes registrations or links.
+fn answers_on_tables(world: &mut World, step: Step) -> Option<bool> {
+    Some(match step {
         Register(slot, kind, rank, want) => registered(world, slot, kind, rank) == number(want),
         Registers(slot, want) => registered(world, slot, Normal, 0) == want,
         Unregister(slot, want) => world.unregister(0, slot) == want,
         Link(which, slot, word, to, want) => linked(world, which, slot, word, to) == Ok(want),
         Unlink(which, slot, word, want) => world.unlink(which, 0, slot, word) == Ok(want),
         Move(which, slot, word, to, want) => moved(world, which, slot, word, to) == Ok(want),
+        _ => return None,
+    })
+}
+
+/// The same of a step of a cycle.
+fn answers_in_cycle(world: &mut World, step: Step) -> Option<bool> {
+    Some(match step {
         Begin(want) => world.begin() == want,
         Mark(budget, want) => world.mark(budget) == Ok(want),
         Pause(pass, picked, reclaimed) => world.pause() == passed(pass, picked, reclaimed),
         Collect(pass, picked, reclaimed) => world.collect() == passed(pass, picked, reclaimed),
-        Hold(slot, place) => held(world, slot, place) == Ok(()),
-        Finish(place, want) => finished(world, place) == want,
         Close(want) => world.close() == want,
-        Outstanding(want) => world.outstanding() == want,
-        Forget(count, number) => world.forget() == count && world.forgotten() == number,
         Scans(want) => world.scans() == want,
         Noted(want) => world.noted() == want,
+        _ => return None,
+    })
+}
+
+/// The same of a step with entries.
+fn answers_on_entries(world: &mut World, step: Step) -> Option<bool> {
+    Some(match step {
+        Hold(slot, place) => held(world, slot, place) == Ok(()),
+        Finish(place, want) => finished(world, place) == want,
+        Outstanding(want) => world.outstanding() == want,
+        Forget(count, number) => world.forget() == count && world.forgotten() == number,
         FinishPairs(pairs) => first_out_of_turn(world, pairs).is_none(),
+        _ => return None,
+    })
+}
+
+/// Whether a step returns the expected result.
+fn answers(world: &mut World, step: Step) -> bool {
+    if let Some(answer) = answers_on_words(world, step) {
+        return answer;
     }
+    if let Some(answer) = answers_on_tables(world, step) {
+        return answer;
+    }
+    if let Some(answer) = answers_in_cycle(world, step) {
+        return answer;
+    }
+    answers_on_entries(world, step).unwrap_or(false)
 }
 
 /// The index of the first step that returns another result.
@@ -716,11 +753,16 @@ const EDGE_OF_THE_HEAP: [Step; 6] = [
 ];
 
 /// What is shown, the blocks of a new world, and the steps in it.
-const LIVES: [(&str, u64, &[Step]); 13] = [
+type Life = (&'static str, u64, &'static [Step]);
+
+const LIVES_OF_ENTRIES: [Life; 4] = [
     ("one object life", 4, &ONE_OBJECT_LIFE),
     ("forgotten entries", 4, &FORGOTTEN_ENTRIES),
     ("chain in order", 4, &CHAIN_IN_ORDER),
     ("ranks in order", 4, &RANKS_IN_ORDER),
+];
+
+const LIVES_OF_LINKS: [Life; 4] = [
     ("short link breaks a cycle", 4, &SHORT_LINK_BREAKS_A_CYCLE),
     (
         "long link waits for its target",
@@ -729,6 +771,9 @@ const LIVES: [(&str, u64, &[Step]); 13] = [
     ),
     ("moved link", 4, &MOVED_LINK),
     ("link in garbage", 4, &LINK_IN_GARBAGE),
+];
+
+const LIVES_OF_CYCLES: [Life; 5] = [
     ("close in a cycle", 4, &CLOSE_IN_A_CYCLE),
     ("limits of an object", MAX_BLOCKS, &LIMITS_OF_AN_OBJECT),
     ("store behind the marker", 4, &STORE_BEHIND_THE_MARKER),
@@ -740,10 +785,36 @@ const LIVES: [(&str, u64, &[Step]); 13] = [
     ("edge of the heap", MAX_BLOCKS, &EDGE_OF_THE_HEAP),
 ];
 
+/// Carries out the steps of each life in a new world.
+fn live(rt: &impl Abort, alloc: Global, lives: &[Life]) {
+    for (name, blocks, steps) in lives {
+        let wrong = first_wrong_of(opened(alloc, *blocks, 1), steps);
+        must_be(
+            rt,
+            (*name, wrong),
+            (*name, Ok(None)),
+            "the first wrong step",
+        );
+    }
+}
+
+// Each table is read in a function of its own, without a loop: the proof of a function has at each place all that the function reads.
+
+fn live_with_entries(rt: &impl Abort, alloc: Global) {
+    live(rt, alloc, &LIVES_OF_ENTRIES);
+}
+
+fn live_with_links(rt: &impl Abort, alloc: Global) {
+    live(rt, alloc, &LIVES_OF_LINKS);
+}
+
+fn live_through_cycles(rt: &impl Abort, alloc: Global) {
+    live(rt, alloc, &LIVES_OF_CYCLES);
+}
+
 #[test]
 fn lives(rt: HostRuntime) {
-    for (name, blocks, steps) in LIVES {
-        let wrong = first_wrong_of(opened(rt.alloc(), blocks, 1), steps);
-        must_be(&rt, (name, wrong), (name, Ok(None)), "the first wrong step");
-    }
+    live_with_entries(&rt, rt.alloc());
+    live_with_links(&rt, rt.alloc());
+    live_through_cycles(&rt, rt.alloc());
 }
