@@ -7,13 +7,13 @@
 #include "rows.h"
 #define NOINLINE __attribute__((noinline, noclone))
 
-static uintptr_t *hidden;      /* the objects, by pointers that bdwgc doesn't see as such */
+static uintptr_t *hidden;      /* the objects, by pointers that are hidden from bdwgc */
 #define OBJECT(i) ((void **)GC_REVEAL_POINTER(hidden[i]))
-static void *volatile root;    /* the one pointer to them that it sees */
-static void **volatile words;  /* an atomic object, in whose words links stand */
+static void *volatile root;    /* the only visible pointer to them */
+static void **volatile words;  /* an atomic object, whose words have links */
 static void finalizer(void *object, void *data) { (void)object; (void)data; }
 
-/* works as long as the busy procedure of crates/service_bench, by as many turns of a word */
+/* does as much work as the busy procedure of crates/service_bench, by as many iterations on a word */
 enum { TURNS = 1000 };
 static volatile uint64_t turned = 1;
 static void busy_finalizer(void *object, void *data) {
@@ -24,7 +24,7 @@ static void busy_finalizer(void *object, void *data) {
 }
 static void NOINLINE clear_stack(void) { volatile char a[256 * 1024]; memset((void *)a, 0, sizeof a); __asm__ volatile("" :: "r"(a) : "memory"); }
 
-/* The time of the objects' allocation alone. */
+/* The time of allocating the objects, without anything else. */
 static double NOINLINE make(const Objects *objects, bool live) {
     hidden = memory(objects->count * sizeof *hidden);
     memset(hidden, 1, objects->count * sizeof *hidden);
@@ -41,10 +41,10 @@ static double NOINLINE make(const Objects *objects, bool live) {
     return t;
 }
 
-/* how many objects are replaced before each collection */
+/* the number of objects replaced before each collection */
 static size_t replaced(const Row *row, size_t n) { return row->call == COLLECT_CHANGED ? n / PART : 0; }
 
-/* how many words there are: one for the link of each object, and one more, or one for that of each new object */
+/* the number of words: one for the link of each object, and one more, or one for the link of each new object */
 static size_t words_of(const Row *row, size_t n) { return n + (row->call == COLLECT_CHANGED ? COLLECTIONS * replaced(row, n) : 1); }
 
 static void NOINLINE make_words(const Row *row, size_t n) {
@@ -81,7 +81,7 @@ static double NOINLINE longest(size_t n, bool links) {
     return most;
 }
 
-/* the bytes of the process that are in memory */
+/* the resident memory of the process in bytes */
 static double resident(void) {
     FILE *file = fopen("/proc/self/statm", "r");
     long pages;
@@ -128,7 +128,7 @@ static double collect(void) {
     return t;
 }
 
-/* A few words on the stack may keep a few objects, or the chain's first. */
+/* A few words on the stack may retain a few objects, or the first of the chain. */
 static void check_number(size_t number, size_t expected, const char *what) { if (number > expected || number + 16 < expected) fail(what); }
 
 static void check_cleared(size_t n, size_t expected) {
@@ -137,7 +137,7 @@ static void check_cleared(size_t n, size_t expected) {
     check_number(cleared, expected, "another number of cleared links");
 }
 
-/* Calls all procedures that are queued. */
+/* Calls all queued procedures. */
 static double invoke(size_t expected) {
     clear_stack();
     double t = now();
@@ -147,7 +147,7 @@ static double invoke(size_t expected) {
     return t;
 }
 
-/* Puts new objects in the place of some of a chain, at random, which die. They are entered like all, and their links stand at words from this one on. */
+/* Replaces random objects of a chain by new ones, so that they die. The new ones are entered like all others, and their links are at words from this one on. */
 static void NOINLINE replace(const Row *row, size_t n, size_t some, size_t word) {
     for (size_t k = 0; k < some; k++) {
         size_t i = 1 + below(n - 1);
@@ -178,7 +178,7 @@ static double collect_live(const Row *row, size_t n) {
     return t;
 }
 
-/* Objects that are made, entered, queued and finished before those that count. */
+/* Objects that are made, entered, queued and finished before the measured ones. */
 static void NOINLINE one_round(const Row *row, const Objects *objects) {
     make(objects, false);
     if (is_linked(row)) make_words(row, objects->count);
@@ -189,7 +189,7 @@ static void NOINLINE one_round(const Row *row, const Objects *objects) {
     free(hidden);
 }
 
-/* collections happen nowhere but where asked for, by one thread; the first is of an empty heap */
+/* collections happen only on request, in one thread; the first one is of an empty heap */
 static double run(const Row *row, const Objects *objects, bool with_call) {
     if (!with_call) return 0;
     GC_set_markers_count(1); GC_INIT(); GC_set_finalize_on_demand(1); GC_disable();

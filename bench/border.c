@@ -17,7 +17,7 @@ static void fail(const char *what) { fprintf(stderr, "border: %s\n", what); exit
 static void must(derrimas_code code) { if (code != DERRIMAS_OK) fail(derrimas_name(code)); }
 static double clock_of(clockid_t id) { struct timespec t; clock_gettime(id, &t); return t.tv_sec * 1e9 + t.tv_nsec; }
 static double now(void) { return clock_of(CLOCK_PROCESS_CPUTIME_ID); }
-/* the time on the wall: for threads, and for single calls, since the other clock takes longer than some of these */
+/* wall-clock time: for threads, and for single calls, since the other clock takes longer than some of these */
 static double wall(void) { return clock_of(CLOCK_MONOTONIC); }
 
 static derrimas_world world;
@@ -43,7 +43,7 @@ static void load(uint64_t n) { for (uint64_t i = 0; i < n; i++) must(derrimas_lo
 static void store(uint64_t n) { for (uint64_t i = 0; i < n; i++) must(derrimas_store(&world, OBJECT, i % DERRIMAS_MAX_SIZE, WORD)); }
 static void read_word(uint64_t n) { for (uint64_t i = 0; i < n; i++) must(derrimas_read(&world, DERRIMAS_HEAP_START, i % DERRIMAS_MAX_SIZE, &word)); }
 
-/* of n calls, in a world that has an object of as many words as one can have, but before allocations */
+/* of n calls, in a world that has an object of the maximal number of words, but before allocations */
 static double of_calls(void (*call)(uint64_t), uint64_t n)
 {
     open_for(n);
@@ -60,7 +60,7 @@ static double loads(uint64_t n) { return of_calls(load, n); }
 static double stores(uint64_t n) { return of_calls(store, n); }
 static double reads(uint64_t n) { return of_calls(read_word, n); }
 
-/* ---- a cycle in steps over n live objects: a chain by rising address */
+/* ---- a cycle in steps over n live objects: a chain with rising addresses */
 
 static double begun, steps[MOST_STEPS], paused, whole;
 static uint64_t seed;
@@ -76,7 +76,7 @@ static void make_chain(uint64_t n)
     }
 }
 
-/* stores to objects of chance the word that each of them has, so that all stay live */
+/* stores to random objects, each time the word that the object already has, so that all stay live */
 static void store_by_chance(uint64_t n, uint64_t count)
 {
     for (uint64_t i = 0; i < count; i++) {
@@ -89,7 +89,7 @@ static void store_by_chance(uint64_t n, uint64_t count)
     must(derrimas_set(&world, WORD, 0));
 }
 
-/* Times each call of a cycle after one that isn't timed, and one more cycle as a whole. `steps` keeps the least time of each step over the turns. */
+/* Times each call of a cycle after one call that isn't timed, and one more cycle as a whole. `steps` has the least time of each step over the turns. */
 static void cycle(uint64_t n, uint64_t between, uint64_t last)
 {
     derrimas_counts before, after;

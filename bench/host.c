@@ -10,7 +10,7 @@ typedef struct { uint32_t records; bool live; uint64_t registered, linked; bool 
 typedef struct { uint64_t numbers, queued, finished; bool done; } Outcome;
 Outcome host_bench_run(const Plan *plan, const uint64_t *order, size_t length);
 
-/* Rows as those of rows.h, but that records lead to nothing: a mixed chain is an order of chance. */
+/* Rows as in rows.h, but records have no edges: a mixed chain is a random order. */
 static const Row host_rows[] = {
     { "register", LOOSE, NORMAL, false, ENTER },
     { "link", LOOSE, LINKED, false, ENTER },

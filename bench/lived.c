@@ -14,7 +14,7 @@
 #include <unistd.h>
 
 enum { WARM = 20, TIMED = 15, WORDS = 1024, LINKS = 1000, MOST = 65536, COLLECT_EACH = 5000 };
-enum { OBJECT, SPINE, HOLDER, TOP, TREE }; /* roots; a tree takes one for each level */
+enum { OBJECT, SPINE, HOLDER, TOP, TREE }; /* of roots; a tree takes one for each level */
 
 static double now(void)
 {
@@ -43,7 +43,7 @@ static void must(bool holds, const char *what)
         fail(what);
 }
 
-/* ---- N objects, which spines hold, and holders, in whose words links stand; all spines and holders stand in the top object */
+/* ---- N objects, which spines hold, and holders, whose words have links; the top object holds all spines and holders */
 
 static uint64_t numbers[MOST];
 
@@ -134,7 +134,7 @@ APART static void unlink_all(uint64_t n)
     }
 }
 
-/* each to the word after its own, the last of a holder first */
+/* each to the word after its own, starting with the last one of a holder */
 APART static void move_on(uint64_t n)
 {
     for (uint64_t i = n; i-- > 0;) {
@@ -225,12 +225,12 @@ static void print_rows(uint64_t n)
                 least[row] = INFINITY;
         one_round(n);
     }
-    must(ran + 2 >= n, "finalizers"); /* bdwgc may see an object or two still, in a register or on the stack */
+    must(ran + 2 >= n, "finalizers"); /* bdwgc may still find an object or two, in a register or on the stack */
     for (int row = 0; row < ROWS; row++)
         printf("%s %.3f\n", names[row], least[row] / (double)n);
 }
 
-/* ---- whole programs: each returns how many steps it made */
+/* ---- whole programs: each returns the number of its steps */
 
 static void collect_and_invoke(void)
 {
@@ -240,7 +240,7 @@ static void collect_and_invoke(void)
     forget_past();
 }
 
-/* a live set of which each step replaces one by a new object, which it registers and links */
+/* a live set; each step replaces an object by a new one, which it registers and links */
 APART static uint64_t churn(uint64_t n)
 {
     uint64_t steps = 10 * COLLECT_EACH;
@@ -283,7 +283,7 @@ static uint64_t nodes_in(int at)
     return count;
 }
 
-/* a tree of 2 N - 1 nodes that stays, and others that come and go; 1 in 16 nodes is registered */
+/* a tree of 2 N - 1 nodes that stays, and others that are made and dropped; 1 in 16 nodes is registered */
 APART static uint64_t trees(uint64_t n)
 {
     int depth = 0;
@@ -306,7 +306,7 @@ APART static uint64_t trees(uint64_t n)
     return made_nodes - first;
 }
 
-/* N keys, each with a word that is a link to its value while there is one; the values that were used last are held, and others go */
+/* N keys, each with a word that is a link to its value while it has one; recently used values are retained, and others are dropped */
 APART static uint64_t cache(uint64_t n)
 {
     enum { HELD = 1000 };
@@ -332,7 +332,7 @@ APART static uint64_t cache(uint64_t n)
 
 static void close_file(uint64_t file) { must(!close((int)file), "close"); }
 
-/* N files, each closed by the finalizer of its object; a collection each 500 */
+/* N files, each closed by the finalizer of its object; a collection after every 500 */
 APART static uint64_t files(uint64_t n)
 {
     for (uint64_t i = 1; i <= n; i++) {
@@ -365,7 +365,7 @@ static double least_of(uint64_t (*program)(uint64_t), uint64_t n)
     return best;
 }
 
-/* the most kilobytes that the process had at one time */
+/* the peak memory of the process in kilobytes */
 static double memory_of_churn(uint64_t n)
 {
     FILE *status = fopen("/proc/self/status", "r");

@@ -31,7 +31,7 @@ static double lock(uint64_t n)
 
 static uint64_t share;
 
-/* as many turns as the procedure makes, of a word that is the thread's own, and never 0 */
+/* as many iterations as the procedure makes, on a word that is local to the thread and never 0 */
 static void *work(void *first)
 {
     uint64_t turned = (uint64_t)(uintptr_t)first;
@@ -40,7 +40,7 @@ static void *work(void *first)
     return (void *)(uintptr_t)turned;
 }
 
-/* with the threads' start and end, so that it shows how much of several processors the machine really gives */
+/* includes the start and the end of the threads, so it shows how much of several processors the machine really provides */
 static double work_by(uint64_t count, uint64_t n)
 {
     pthread_t threads[MOST];

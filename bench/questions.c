@@ -19,7 +19,7 @@ static void fail(const char *what) { fprintf(stderr, "questions: %s\n", what); e
 static void must(derrimas_finalizers_code code) { if (code != DERRIMAS_FINALIZERS_OK) fail("a call was refused"); }
 static double now(void) { struct timespec t; clock_gettime(CLOCK_PROCESS_CPUTIME_ID, &t); return t.tv_sec * 1e9 + t.tv_nsec; }
 
-/* How many bytes of memory the handle has. Each block has its size at its head. */
+/* The number of bytes that the handle has allocated. Each block has its size in its header. */
 static uint64_t bytes;
 static void *reallocate(void *data, void *at, size_t size)
 {
@@ -43,7 +43,7 @@ static void release(void *data, void *at)
     free((char *)at - HEAD);
 }
 
-/* The numbers of n objects that stand so far apart, by rising number or in random order. */
+/* n numbers of objects at this distance, in rising or in random order. */
 static uint64_t *numbers(uint64_t n, uint64_t apart, bool random)
 {
     uint64_t *of = malloc(n * sizeof *of), seed = 88172645463325252u;
@@ -124,7 +124,7 @@ static double bytes_finished(uint64_t n)
     return (double)(bytes - before);
 }
 
-/* of one kind, or of two that alternate, which are asked about in two groups */
+/* of one kind, or of two alternating kinds, which are asked about in two groups */
 static void register_all(uint64_t n, bool alternate)
 {
     for (uint64_t i = 0; i < n; i++) {
@@ -137,8 +137,8 @@ static bool is_of_children(const derrimas_question *question) { return question-
 
 static uint64_t questions_about(uint64_t n) { return (n + DERRIMAS_FINALIZERS_BATCH - 1) / DERRIMAS_FINALIZERS_BATCH; }
 
-/* From the call before the first question that has children marked, which sorts by kinds, to the question after the last. Nothing was marked before, and then all
- * is. */
+/* From the call before the first question that marks children, which sorts by kinds, to the question after the last. Everything is unmarked before it and
+ * marked after it. */
 static double children(uint64_t n, bool alternate)
 {
     derrimas_question question;
@@ -169,8 +169,8 @@ static double children(uint64_t n, bool alternate)
 static double of_two_kinds(uint64_t n) { return children(n, true); }
 static double of_one_kind(uint64_t n) { return children(n, false); }
 
-/* A whole pass, whose objects are all marked, or all unmarked. Those are queued. Where all are marked, each is asked about once, or each region is; of a link so are
- * its target and its word. */
+/* A whole pass over objects that are all marked, or all unmarked. Unmarked ones are queued. If all are marked, there is a question about each, or about each
+ * region; and for a link also about its target and its word. */
 static double whole_pass(uint64_t n, how how, bool marked)
 {
     const uint64_t each = by_regions ? n / 64 + 1 : n;
@@ -196,9 +196,9 @@ static double live_cleanups(uint64_t n) { return whole_pass(n, CLEANED, true); }
 static double queued(uint64_t n) { return whole_pass(n, REGISTERED, false); }
 static double queued_cleanups(uint64_t n) { return whole_pass(n, CLEANED, false); }
 
-/* Ephemerons over a host with a byte for the mark of each object. The key of the i-th is object i, and its value object i + 1. */
+/* Ephemerons over a host with a byte for the mark of each object. The i-th ephemeron has the key i and the value i + 1. */
 static unsigned char *byte_marks;
-static bool tells_keys; /* whether the host tells the keys that it marks */
+static bool tells_keys; /* whether the host reports the keys that it marks */
 
 static bool byte_is_marked(void *data, uint64_t object) { (void)data; return byte_marks[object]; }
 static bool holder_is_marked(void *data, uint64_t word) { (void)data; (void)word; return true; }
@@ -218,7 +218,7 @@ static bool mark_next(void *data, uint64_t word)
     return true;
 }
 
-/* A whole pass over n ephemerons that are made by falling number, of whose keys the first is marked, or all are. */
+/* A whole pass over n ephemerons that are made by falling number. Either the first key is marked, or all are. */
 static double over_ephemerons(uint64_t n, bool chain)
 {
     static const derrimas_host host = {byte_is_marked, mark_no_children, mark_nothing, mark_nothing, mark_nothing, holder_is_marked, NULL, NULL, mark_next};
@@ -243,7 +243,7 @@ static double over_ephemerons(uint64_t n, bool chain)
 static double live_ephemerons(uint64_t n) { return over_ephemerons(n, false); }
 static double chained_ephemerons(uint64_t n) { return over_ephemerons(n, true); }
 
-/* The client data of all registrations, as a host marks from it once a collection. */
+/* The client data of all registrations, which a host marks once in each collection. */
 static double roots(uint64_t n)
 {
     uint64_t from = 0, some[512], sum = 0;

@@ -24,7 +24,7 @@ enum { HEAP_START = 65536, BLOCK_WORDS = 64, HOLDER_WORDS = 1024, SLOTS = 16 };
 static uint64_t address(const Objects *objects, size_t i) { return HEAP_START + i * objects->size; }
 static uint64_t round_up(uint64_t n, uint64_t size) { return (n + size - 1) / size; }
 
-/* the plan of a row, with the call that is timed or without it */
+/* the plan of a row, with the timed call or without it */
 static Plan plan_of(const Row *row, const Objects *objects, bool with_call) {
     size_t n = objects->count;
     bool collects = row->call == COLLECT || row->call == COLLECT_AGAIN;
@@ -38,7 +38,7 @@ static Plan plan_of(const Row *row, const Objects *objects, bool with_call) {
     if (row->live) plan.root = address(objects, objects->first);
     if (row->call == COLLECT_AGAIN) plan.rounds = ROUNDS;
     if (collects) plan.collections = row->live + (with_call ? calls(row) : 0);
-    if (row->call == COLLECT && row->kind == LINKED) plan.unlinked = 1; /* which tells whether it still stands */
+    if (row->call == COLLECT && row->kind == LINKED) plan.unlinked = 1; /* to check whether it is still there */
     if (row->call == MOVE && with_call) plan.moved = n;
     if (row->call == UNLINK && with_call) plan.unlinked = n;
     if (row->call == STORE || row->call == STORE_IN_CYCLE) { plan.loaded = n; plan.stored = with_call; plan.begun = row->call == STORE_IN_CYCLE; }
@@ -72,7 +72,7 @@ static void check(const Row *row, const Objects *objects, const Plan *plan, cons
 }
 
 static double run(const Row *row, const Objects *objects, bool with_call) {
-    /* all of the code once, so that it is in memory */
+    /* runs all of the code once, so that it is in memory */
     Plan plan = plan_of(row, objects, with_call), first = { .blocks = 1 + HOLDER_WORDS / BLOCK_WORDS, .frames = 2, .objects = 1, .size = 1, .registered = 1,
         .holders = 1, .linked = 1, .collections = 1, .moved = 1, .unlinked = 1, .begun = true, .loaded = 1, .stored = true, .finished = 1 };
     if (!world_bench_run(&first, NULL, 0).done) fail("a call was refused");
@@ -86,8 +86,8 @@ static double run(const Row *row, const Objects *objects, bool with_call) {
     return t;
 }
 
-/* A finish takes no memory, and some thirtieth of the time of what has to come before it: so all runs of that row share their memory, since
-   fresh memory would make them differ by more than what is timed. So do those of the rows whose calls come after what takes longer too. */
+/* A finish takes no memory, and about a thirtieth of the time of the preparation. So all runs of that row share their memory: with fresh memory they would
+ * differ by more than the timed calls take. The same holds for the other rows whose calls follow a longer preparation. */
 static double fresh(const Row *row, const Objects *objects, bool with_call) {
     if (row->call != MAKE && row->call != ENTER && row->call != COLLECT && row->call != COLLECT_AGAIN) {
         mallopt(M_MMAP_THRESHOLD, 1 << 30);

@@ -1,12 +1,12 @@
-/* The library's calls as they are, for wrong libraries: each edit of `wrong` changes a line here or in finalize.c, or for c/lua/run in lgc.c. The linker's --wrap
- * puts these calls between the two.
+/* The library's calls, unchanged. They are here so that wrong libraries can be built: each edit of `wrong` changes a line here or in finalize.c, or for
+ * c/lua/run in lgc.c. The linker's --wrap puts these calls between the collector and the library.
  */
 #include "derrimas_finalizers.h"
 
 typedef derrimas_finalizers handle;
 typedef derrimas_finalizers_code code;
 
-/* ---- the opening: whether passes ask about regions. A program may wrap it, or the questions, itself. */
+/* ---- opening: whether passes ask about regions. A program may wrap this call or the questions itself. */
 
 static bool asks(bool by_regions) { return by_regions; }
 
@@ -27,7 +27,7 @@ void reachable_here(const void *object);
 
 __attribute__((weak)) void reachable_here(const void *object) { (void)object; }
 
-/* ---- the pass: questions that aren't asked, questions that are altered, and answers that are */
+/* ---- the pass: questions that are left out, altered questions, and altered answers */
 
 static bool is_left_out(const derrimas_question *question)
 {
@@ -40,7 +40,7 @@ static void alter(derrimas_question *question)
     (void)question;
 }
 
-/* The answers to the question before: so many objects, words or regions were asked about. */
+/* The answers to the last question, which asked about so many objects, words or regions. */
 static uint64_t altered(derrimas_question *question, derrimas_ask ask, uint64_t count, uint64_t answers)
 {
     (void)question;
@@ -49,9 +49,9 @@ static uint64_t altered(derrimas_question *question, derrimas_ask ask, uint64_t 
     return answers;
 }
 
-static bool says_live; /* whether all words are said to be in use from now on */
+static bool says_live; /* whether all words are reported as live from now on */
 
-/* The word of a region. So many questions of the pass came before this one. */
+/* The word of a region. `before` is the number of questions that came earlier in this pass. */
 static uint64_t altered_word(derrimas_ask ask, uint64_t before, uint64_t word)
 {
     (void)before;

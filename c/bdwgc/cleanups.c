@@ -1,5 +1,5 @@
-/* cleanups: those of gc_cleanup.h, over the replaced library alone. Short ones come before an object's finalizer, long ones when it is gone, each once, also of
- * objects that lead to each other, and none that was cancelled.
+/* cleanups: the cleanups of gc_cleanup.h, over the replaced library alone. Short ones run before the object's finalizer, and long ones once the object is
+ * reclaimed. Each runs once, also for objects in a cycle, and a cancelled one never runs.
  */
 #include "graph.h"
 #include "gc_cleanup.h"
@@ -35,7 +35,7 @@ static void long_cleanup(void *object, void *cd)
     note(LONG, object, (uintptr_t)cd);
 }
 
-/* Of four objects the first has a long cleanup alone, the second a finalizer and both, and the others, which lead to each other, both. */
+/* Of four objects the first has only a long cleanup, the second a finalizer and both cleanups, and the others, which form a cycle, both cleanups. */
 APART static void make(uintptr_t n)
 {
     void **object = objects[n] = GC_MALLOC(2 * sizeof(void *)), *cd = (void *)n;
@@ -72,9 +72,9 @@ int main(void)
     lines = dumped_lines();
     for (unsigned n = 0; n < OBJECTS; n += 8)
         wrong += !GC_cancel_cleanup(numbers[n]) || GC_cancel_cleanup(numbers[n]);
-    wrong += dumped_lines() != lines - OBJECTS / 8; /* the dump tells of each */
+    wrong += dumped_lines() != lines - OBJECTS / 8; /* the dump lists each */
     wrong += GC_cancel_cleanup(0) || GC_add_cleanup(&on_stack, GC_CLEANUP_LONG, long_cleanup, 0) || GC_add_cleanup(0, GC_CLEANUP_LONG, long_cleanup, 0);
-    wrong += GC_add_cleanup(objects[0] + 1, GC_CLEANUP_LONG, long_cleanup, 0) || GC_add_cleanup(objects[0], GC_CLEANUP_LONG, 0, 0); /* within an object; no procedure */
+    wrong += GC_add_cleanup(objects[0] + 1, GC_CLEANUP_LONG, long_cleanup, 0) || GC_add_cleanup(objects[0], GC_CLEANUP_LONG, 0, 0); /* interior; no procedure */
     collect();
     wrong += GC_invoke_finalizers() != 0;
     memset(objects, 0, OBJECTS * sizeof *objects);

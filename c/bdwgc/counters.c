@@ -1,5 +1,6 @@
-/* counters: the counts of finalization by which bdwgc paces its collections, over the replaced library alone: how many objects are registered, and how many
- * bytes a collection queued. The program reads them from bdwgc's own variables. And how many regions a collection asks about, by the linker's --wrap.
+/* counters: the finalization counters by which bdwgc paces its collections, over the replaced library alone: the number of registered objects, and the number
+ * of bytes that a collection queued. The program reads them from bdwgc's own variables. It also counts the regions that a collection asks about, by the
+ * linker's --wrap.
  */
 #include "private/gc_priv.h"
 #undef GC_MALLOC
@@ -58,7 +59,7 @@ APART static void make_large(void)
     }
 }
 
-/* Frees a large object, whose finalizer is removed, and returns its address, hidden. */
+/* Removes the finalizer of a large object, frees the object, and returns its hidden address. */
 APART static uintptr_t free_large(unsigned n)
 {
     const uintptr_t hidden = ~(uintptr_t)objects[n];
@@ -69,7 +70,7 @@ APART static uintptr_t free_large(unsigned n)
     return hidden;
 }
 
-/* The large object behind that one. */
+/* The large object behind this one. */
 APART static unsigned neighbour(uintptr_t hidden)
 {
     unsigned n = 0;
@@ -79,7 +80,7 @@ APART static unsigned neighbour(uintptr_t hidden)
     return n;
 }
 
-/* Of a region whose last object was freed a pass asks once more, if all others stay. */
+/* If a region's last object was freed and all others stay, the next pass asks about the region once more, and later ones don't. */
 APART static void asks_of(const char *what, unsigned others)
 {
     collect();
@@ -89,7 +90,8 @@ APART static void asks_of(const char *what, unsigned others)
     printf("%s: asked about %s, wrong %u\n", what, regions > others ? "others" : "what stays", wrong);
 }
 
-/* Large objects that were marked in a collection and are freed: one between others, whose block is free then, and the one behind it, which joins that. */
+/* Frees large objects that were marked in a collection: one between others, whose block becomes free, and the one behind it, whose block is merged with
+ * that. */
 APART static void free_some(void)
 {
     unsigned beside;
@@ -104,7 +106,7 @@ APART static void free_some(void)
     asks_of("one more", LARGE - 2);
 }
 
-/* Registers the object, in the place of what it has, and without data or with data that nothing else leads to. */
+/* Registers the object, replacing its finalizer if it has one, either without client data or with data that nothing else reaches. */
 APART static void give(void *object, void **data, bool has)
 {
     void *given = has ? GC_malloc(SIZE) : 0;
@@ -116,7 +118,7 @@ APART static void give(void *object, void **data, bool has)
         fail("a link");
 }
 
-/* Client data is retained while its registration stands or its entry waits, whatever there was before. */
+/* Client data is retained while its registration exists or its entry waits, whatever was registered before. */
 static void retain_data(void **object, void **data)
 {
     static const bool has[] = {false, true, false, true, true};
@@ -149,13 +151,13 @@ int main(void)
     open_bdwgc();
     objects = GC_malloc_uncollectable(OBJECTS * sizeof *objects);
     make_all();
-    size = GC_size(objects[0]); /* with what the debugging of a build adds */
+    size = GC_size(objects[0]); /* plus what a debugging build adds */
     tell("all", OBJECTS, 0);
     for (unsigned n = 0; n < 100; n++)
-        GC_register_finalizer_no_order(objects[n], note, 0, 0, 0); /* in the place of the first */
+        GC_register_finalizer_no_order(objects[n], note, 0, 0, 0); /* replaces the first */
     tell("some again", OBJECTS, 0);
     for (unsigned n = 0; n < 200; n++)
-        GC_register_finalizer(objects[n % 100], 0, 0, 0, 0); /* each twice */
+        GC_register_finalizer(objects[n % 100], 0, 0, 0, 0); /* each one twice */
     tell("some removed", OBJECTS - 100, 0);
     collect();
     tell("none lost", OBJECTS - 100, 0);

@@ -1,14 +1,15 @@
-/* dangling: links whose holder is lost. Every second holder with a linked word goes, others come to stand where they stood, and then the targets go: no word
- * of a stranger may be written to. The holders between them stay, so that a lost one's first word stands behind the last word of one that is retained.
+/* dangling: links whose holder is reclaimed. Every second holder with a linked word is dropped, new objects are allocated in their memory, and then the targets
+ * are dropped. No word of a new object may be written to. The holders between them stay, so the first word of a reclaimed one is directly behind the last word
+ * of a retained one.
  */
 #include "graph.h"
 
 enum { HOLDERS = 4000, WORDS = 8, ROUNDS = 4 };
 
-static uintptr_t *places;  /* of the words of lost links, hidden */
+static uintptr_t *places;  /* of the words of the lost links, hidden */
 static void **targets;     /* a root */
 static void ***retained;   /* a root: the holders that stay */
-static uintptr_t **others; /* a root: what stands there now */
+static uintptr_t **others; /* a root: the objects that are there now */
 
 APART static void make_link(unsigned n, bool is_long)
 {
@@ -20,7 +21,7 @@ APART static void make_link(unsigned n, bool is_long)
     places[n] = ~(uintptr_t)word;
 }
 
-/* Holders one behind another, and links at their words, in the order of the holders or against it. */
+/* Holders in adjacent memory, and links at their words, in the order of the holders or in reverse. */
 APART static void make_links(bool is_long, bool backwards)
 {
     for (unsigned n = 0; n < HOLDERS; n++)
@@ -31,7 +32,7 @@ APART static void make_links(bool is_long, bool backwards)
         retained[n] = NULL;
 }
 
-/* How many words of lost links stand in the new objects, whose words are all 1. */
+/* The number of words of lost links that are in the new objects, whose words are all 1. */
 APART static unsigned make_others(void)
 {
     unsigned found = 0;

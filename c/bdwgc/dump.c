@@ -1,4 +1,4 @@
-/* dump: how many lines GC_dump_finalization prints, where registrations and links of both kinds stand, and after some were removed. */
+/* dump: the number of lines that GC_dump_finalization prints, with registrations and links of both kinds, and after some were removed. */
 #include "graph.h"
 
 enum { OBJECTS = 100 };

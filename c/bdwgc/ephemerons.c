@@ -1,6 +1,6 @@
-/* ephemerons: those of gc_ephemeron.h, over the replaced library alone. A weak table whose values lead to their keys keeps all of its rows as a table of links, and those
- * alone whose keys are used otherwise as one of ephemerons. Rows of chains, of lost tables, of keys with finalizers, and of pointers with tags; words that move, and words
- * outside the heap. Threads that make rows while another one collects.
+/* ephemerons: the ephemerons of gc_ephemeron.h, over the replaced library alone. A weak table whose values reach their keys retains all of its rows if it is a
+ * table of links, and only those whose keys are reachable otherwise if it is one of ephemerons. Also: rows in chains, tables that are lost themselves, keys
+ * with finalizers, and tagged pointers; words that move, and words outside the heap; threads that make rows while another one collects.
  */
 #include <pthread.h>
 #include "graph.h"
@@ -9,8 +9,8 @@
 enum { ROWS = 20000, USED = 10, FEW = 100, TAG = 3, THREADS = 4 };
 
 static unsigned wrong, came;
-static void **keys, **values, **tables; /* words that bdwgc doesn't scan; words of tables that it does */
-static void ***used, **watched;         /* the keys that are used, which it does; and a long link to each value */
+static void **keys, **values, **tables; /* words that bdwgc doesn't scan; words of tables that it scans */
+static void ***used, **watched;         /* the keys that are used, which bdwgc scans; and a long link to each value */
 
 static void tell(const char *name, unsigned found, unsigned wanted)
 {
@@ -23,7 +23,7 @@ static void must(bool right)
         fail("a call");
 }
 
-/* A number that something else has to keep. */
+/* A number that something else has to retain. */
 APART static uintptr_t *boxed(uintptr_t n)
 {
     uintptr_t *box = GC_MALLOC_ATOMIC(2 * sizeof(void *));
@@ -32,7 +32,7 @@ APART static uintptr_t *boxed(uintptr_t n)
     return box;
 }
 
-/* A row: the value leads to its key, and to its number. One in ten keys is used. */
+/* A row: the value points to its key and to its number. One in ten keys is used. */
 APART static void make_row(uintptr_t n, bool is_ephemeron)
 {
     void **key = GC_MALLOC(2 * sizeof(void *)), **value = GC_MALLOC(2 * sizeof(void *));
@@ -41,13 +41,13 @@ APART static void make_row(uintptr_t n, bool is_ephemeron)
     value[1] = boxed(n);
     used[n] = n % USED == 0 ? key : NULL;
     keys[n] = key;
-    must(GC_general_register_disappearing_link(&keys[n], key) != GC_NO_MEMORY); /* the word may have a link of the table before */
+    must(GC_general_register_disappearing_link(&keys[n], key) != GC_NO_MEMORY); /* the word may still have a link of the previous table */
     if (is_ephemeron)
         must(GC_register_ephemeron((void **)&values[n], key) == GC_SUCCESS);
     (is_ephemeron ? values : tables)[n] = value;
 }
 
-/* How many rows are gone: both words are, or neither. What is left is as it was. */
+/* The number of cleared rows. Both words of a row are cleared, or neither. The words that remain are unchanged. */
 static unsigned lost_rows(void **of)
 {
     unsigned lost = 0;
@@ -78,7 +78,7 @@ static void weak_tables(void)
     fill(true);
     collect();
     for (uintptr_t n = 0; n < 2 * ROWS; n++)
-        (void)boxed(ROWS); /* where numbers were that nothing kept */
+        (void)boxed(ROWS); /* at the addresses of numbers that nothing retained */
     tell("rows of a table of ephemerons that go", lost_rows(values), ROWS - ROWS / USED);
     memset(used, 0, ROWS * sizeof *used);
     collect();
@@ -118,12 +118,12 @@ static void chains(void)
     used[0] = NULL;
     collect();
     collect();
-    wrong += count(values, FEW) > FEW / 2 || count(watched, FEW) > FEW / 2; /* the stack may keep some */
+    wrong += count(values, FEW) > FEW / 2 || count(watched, FEW) > FEW / 2; /* the stack may retain some */
     tell("a chain of rows", FEW, FEW);
     memset(values, 0, FEW * sizeof *values);
 }
 
-/* Tables that are lost themselves, of keys that are used. */
+/* Tables that are lost themselves, while their keys are used. */
 APART static void make_lost_tables(void)
 {
     used[0] = GC_MALLOC(2 * sizeof(void *));
@@ -153,7 +153,7 @@ static void finalizer(void *object, void *cd)
     came++;
 }
 
-/* A key with a finalizer, a short row and a long one: the finalizer finds no short row, and the value of the long one. */
+/* A key with a finalizer, a short row and a long row: the finalizer finds the short row cleared, and the value of the long one intact. */
 APART static void make_registered(uintptr_t n)
 {
     void **key = GC_MALLOC(2 * sizeof(void *)), **value = GC_MALLOC(2 * sizeof(void *));
@@ -181,7 +181,7 @@ static void registered_keys(void)
 
 static bool is_over; /* the makers have ended */
 
-/* The value is written once the word is an ephemeron, and to another word before the ephemeron is moved there. */
+/* The value is written after the word has become an ephemeron, and before an ephemeron is moved it is written to the new word. */
 APART static bool make_moved(uintptr_t n)
 {
     void **key = GC_MALLOC(2 * sizeof(void *)), **value = GC_MALLOC(2 * sizeof(void *));
@@ -217,7 +217,7 @@ static void in_threads(void)
     pthread_t makers[THREADS], collector;
 
     for (unsigned n = 0; n < ROWS; n++)
-        (void)GC_unregister_ephemeron(&values[n]); /* that the stack has kept */
+        (void)GC_unregister_ephemeron(&values[n]); /* those that the stack retained */
     memset(values, 0, ROWS * sizeof *values);
     memset(used, 0, ROWS * sizeof *used);
     GC_enable();
@@ -238,7 +238,7 @@ static void in_threads(void)
     tell("rows of threads that go", ROWS - count(values, ROWS), ROWS - ROWS / USED);
 }
 
-/* Each answer of the calls, about words outside the heap. */
+/* The return values of each call, for words outside the heap. */
 static void answers(void)
 {
     static void *words[3];
@@ -248,17 +248,17 @@ static void answers(void)
     wrong += GC_register_ephemeron(&words[0], key) != GC_SUCCESS || GC_register_long_ephemeron(&words[0], key) != GC_DUPLICATE;
     wrong += GC_move_ephemeron(&words[1], &words[2]) != GC_NOT_FOUND || GC_register_ephemeron(&words[1], key) != GC_SUCCESS;
     wrong += GC_move_ephemeron(&words[0], &words[1]) != GC_DUPLICATE || GC_move_ephemeron(&words[0], &words[2]) != GC_SUCCESS;
-    lines = dumped_lines(); /* the dump tells of the long one and of the short one */
+    lines = dumped_lines(); /* the dump lists the long one and the short one */
     wrong += GC_unregister_ephemeron(&words[0]) || !GC_unregister_ephemeron(&words[2]) || dumped_lines() != lines - 1;
     wrong += GC_register_long_ephemeron(&words[2], key) != GC_SUCCESS || !GC_unregister_ephemeron(&words[1]) || dumped_lines() != lines - 1;
     wrong += !GC_unregister_ephemeron(&words[2]);
-    wrong += GC_register_ephemeron(&words[0], words) != GC_NOT_FOUND || GC_register_long_ephemeron(&words[0], key + 1) != GC_NOT_FOUND; /* outside the heap; within an object */
+    wrong += GC_register_ephemeron(&words[0], words) != GC_NOT_FOUND || GC_register_long_ephemeron(&words[0], key + 1) != GC_NOT_FOUND; /* outside; interior */
     wrong += GC_register_long_ephemeron(&words[0], NULL) != GC_NOT_FOUND || GC_unregister_ephemeron(&words[0]);
     collect();
     tell("answers", 0, 0);
 }
 
-/* The value's address has a tag, at which bdwgc takes it for one of the object, and no other address within an object. */
+/* The value's address has a tag. bdwgc takes an address with this tag for one of the object, and no other interior address. */
 APART static void make_tagged(uintptr_t n)
 {
     void **value = GC_MALLOC(2 * sizeof(void *));
@@ -300,7 +300,7 @@ static void tagged(void)
 
 int main(void)
 {
-    in_a_process(tagged); /* what bdwgc takes for a pointer is chosen before it is opened */
+    in_a_process(tagged); /* bdwgc must know which values count as pointers before it is opened */
     opens();
     weak_tables();
     chains();

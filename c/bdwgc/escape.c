@@ -1,4 +1,4 @@
-/* escape: finalizers that leave by longjmp, and by their thread's end. Their objects go all the same, and so does what those lead to. */
+/* escape: finalizers that leave by longjmp, and finalizers that end their thread. Their objects are reclaimed all the same, with all that these reach. */
 #include <pthread.h>
 #include <setjmp.h>
 #include "graph.h"
@@ -7,7 +7,7 @@ enum { OBJECTS = 200, SPARE = 20 };
 
 static jmp_buf back;
 static unsigned ran;
-static void **words; /* with long links to the objects: 0 once they are gone */
+static void **words; /* with long links to the objects: 0 once they are reclaimed */
 
 static void jump(void *object, void *cd)
 {

@@ -1,11 +1,11 @@
-/* finalize.c of bdwgc over derrimas_finalizers.h: it stands in the place of the package's own file, which is compiled with it as finalize_package.c.
+/* finalize.c of bdwgc over derrimas_finalizers.h. It replaces the package's own file, which is compiled into it as finalize_package.c.
  *
- * Registrations, disappearing links, the pass and the queue are the library's. This file has gc.h's calls for them, what the pass asks of bdwgc's heap,
- * and memory. From the package's file come toggle references, the awaited procedure, the rules of the notifier and of nesting, whether entries wait, and how
- * an object's words are marked. Its other functions are compiled under other names, which nothing calls.
+ * The library keeps the registrations, the disappearing links and the queue, and makes the pass. This file has gc.h's calls for them, answers the pass's
+ * questions about bdwgc's heap, and provides memory. The package's file provides toggle references, the awaited procedure, the rules for the notifier and for
+ * nesting, the test whether entries wait, and the marking of an object's words. Its other functions are compiled under other names, and nothing calls them.
  *
- * All is used under the lock of bdwgc's allocator. A conservative collector sees the stack, where the library's questions lie, and in some forms all
- * memory. So the library is given addresses with the highest bit turned, which look like none and keep their order.
+ * Everything runs under bdwgc's allocator lock. A conservative collector scans the stack, where the library's questions are stored, and in some forms all
+ * memory. So the library gets addresses with the highest bit flipped: these don't look like pointers, and keep their order.
  */
 #ifndef _GNU_SOURCE
 #define _GNU_SOURCE 1 /* mremap */
@@ -24,7 +24,7 @@
 #error "addresses are hidden in numbers of 64 bits"
 #endif
 
-/* ---- the package's file, with these of its functions named away */
+/* ---- the package's file, with these of its functions renamed */
 
 #define GC_push_finalizer_structures GC_package_push_finalizer_structures
 #define GC_register_disappearing_link GC_package_register_disappearing_link
@@ -42,10 +42,11 @@
 #define GC_finalize GC_package_finalize
 #define GC_finalize_all GC_package_finalize_all
 #define GC_print_finalization_stats GC_package_print_finalization_stats
-/* What stays calls this one. With `void` between its brackets the name is a definition's, and another; with nothing it is a call's, and the same. */
+/* The code that stays calls this one. Its definition has `void` between the brackets, so the macro renames it. A call has nothing there, so its name is
+ * unchanged. */
 #define GC_invoke_finalizers(nothing) GC_##nothing##invoke_finalizers(nothing)
 
-/* With internal linkage, which their definitions keep, a compiler leaves them out. */
+/* Their definitions keep this internal linkage, so a compiler can drop them. */
 static void GC_package_push_finalizer_structures(void);
 static int GC_package_register_disappearing_link(void **link);
 static int GC_package_general_register_disappearing_link(void **link, const void *target);
@@ -87,11 +88,11 @@ static int GC_voidinvoke_finalizers(void);
 #undef GC_print_finalization_stats
 #undef GC_invoke_finalizers
 
-/* ---- the library's memory: from the system alone, so that it asks for it under the lock, also where malloc is bdwgc's own */
+/* ---- the library's memory: from the system alone, so that it can be allocated under the lock, also if malloc is bdwgc's own */
 
 enum { HEAD = 16, SMALL = 2048, CLASSES = 8, CHUNK = 1 << 18 };
 
-/* Before what the library is given stands how much of it there is; or, of a small one that is free, the next free one. */
+/* The header before each block: its size, or, in a free small block, the next free one. */
 union block {
     size_t size;
     union block *next;
@@ -99,7 +100,7 @@ union block {
 
 static union block *free_blocks[CLASSES]; /* of 16 bytes, 32, .. SMALL */
 static char *chunk;
-static size_t chunk_left; /* a number, as an address of its end might be one of the heap's */
+static size_t chunk_left; /* a number and no pointer, since the address of the chunk's end might be one of the heap's */
 
 static void *pages(size_t size)
 {
@@ -172,7 +173,7 @@ static void release(void *nothing, void *memory)
 }
 
 #ifdef MREMAP_MAYMOVE
-/* Pages as they are: most of them would be copied to fresh ones. */
+/* Remaps the pages instead of copying them to fresh ones. */
 static void *moved_pages(void *memory, size_t had, size_t size)
 {
     union block *block = (union block *)mremap((char *)memory - HEAD, HEAD + had, HEAD + size, MREMAP_MAYMOVE);
@@ -202,15 +203,15 @@ static void *reallocate(void *nothing, void *memory, size_t size)
     return other;
 }
 
-/* ---- the handle, and addresses that are hidden in it */
+/* ---- the handle, and the hidden addresses in it */
 
 #define HIDING ((word)1 << 63)
 #define HIDE(address) ((uint64_t)((word)(address) ^ HIDING))
 #define SHOW(number) ((ptr_t)((word)(number) ^ HIDING))
 
-static derrimas_finalizers finalizers; /* opened by the first registration or link; until then all calls are refused, and nothing stands */
+static derrimas_finalizers finalizers; /* opened by the first registration or link; until then it is empty, and all calls are refused */
 
-/* Marks of objects by their index say nothing of places: then the library asks of each object and each word by itself. */
+/* If mark bits are indexed by object, they don't correspond to addresses. Then the library asks about each object and each word separately. */
 #ifdef MARK_BIT_PER_OBJ
 #define HAS_MARKS false
 #else
@@ -227,7 +228,7 @@ static GC_bool is_open(void)
     return opened;
 }
 
-/* Tells the package's file whether entries wait: GC_should_invoke_finalizers and the rule of the notifier look there. */
+/* Reports to the package's file whether entries wait: GC_should_invoke_finalizers and the rule for the notifier read this variable. */
 static void tell_waiting(void)
 {
     SET_FINALIZE_NOW(derrimas_finalizers_has_waiting(&finalizers) ? (struct finalizable_object *)(void *)&finalizers : NULL);
@@ -242,7 +243,7 @@ static derrimas_finalizers_counts counted(void)
     return counts;
 }
 
-/* After a refusal for want of memory: whether the procedure for that found some, which is given back for the call to be made again. */
+/* Called after a call ran out of memory. Returns whether GC_oom_fn found some. It is freed again, so that the call can be repeated. */
 static GC_bool found_memory(size_t size)
 {
     GC_oom_func find = GC_oom_fn;
@@ -257,7 +258,7 @@ static GC_bool found_memory(size_t size)
     return found != NULL;
 }
 
-/* How many registrations, cleanups and entries that wait have client data. */
+/* The number of registrations, cleanups and waiting entries with client data. */
 static word with_data;
 
 static word is_data(uint64_t cd) { return SHOW(cd) != NULL; }
@@ -265,7 +266,7 @@ static word had_data(const derrimas_finalizers_old *old) { return old->was ? is_
 
 /* ---- registrations */
 
-/* Registers or removes, under the lock. FALSE: there was no memory. */
+/* Registers or removes, under the lock. FALSE: out of memory. */
 __attribute__((always_inline)) GC_INLINE GC_bool change(uint64_t object, GC_finalization_proc proc, uint64_t cd, derrimas_finalizers_kind kind,
                                                         derrimas_finalizers_old *old)
 {
@@ -292,7 +293,7 @@ static void register_kind(void *object, GC_finalization_proc proc, void *cd, GC_
     if (EXPECT(GC_find_leak, FALSE))
         return;
     LOCK();
-    done = (proc != 0 && HDR(object) == 0) /* no object of the heap: it is never collected */
+    done = (proc != 0 && HDR(object) == 0) /* not an object of the heap, so never collected */
            || change(hidden, proc, data, kind, &old)
            || (found_memory(sizeof(derrimas_finalizers_registration_at)) && change(hidden, proc, data, kind, &old));
     if (done && old_cd)
@@ -325,9 +326,9 @@ GC_API void GC_CALL GC_register_finalizer_unreachable(void *object, GC_finalizat
     register_kind(object, proc, cd, old_proc, old_cd, DERRIMAS_FINALIZERS_UNREACHABLE);
 }
 
-/* ---- cleanups, of which gc.h has none */
+/* ---- cleanups, which gc.h doesn't have */
 
-/* Of any other address a pass couldn't tell whether it is marked. */
+/* A pass couldn't tell whether any other address is marked. */
 static GC_bool is_first_byte(const void *object) { return object != NULL && GC_base((void *)(word)object) == object; }
 
 static GC_bool add(uint64_t object, GC_cleanup_when when, GC_finalization_proc proc, uint64_t cd, uint64_t *number)
@@ -337,7 +338,7 @@ static GC_bool add(uint64_t object, GC_cleanup_when when, GC_finalization_proc p
     return is_open() && derrimas_finalizers_add_cleanup(&finalizers, object, due, (uint64_t)(word)proc, cd, 0, number) == DERRIMAS_FINALIZERS_OK;
 }
 
-/* A number of gc_cleanup.h is 1 more than the library's. */
+/* A number in gc_cleanup.h is the library's number plus 1. */
 GC_API unsigned long long GC_CALL GC_add_cleanup(void *object, GC_cleanup_when when, GC_finalization_proc proc, void *cd)
 {
     const uint64_t hidden = HIDE(object), data = HIDE(cd);
@@ -370,13 +371,13 @@ GC_API int GC_CALL GC_cancel_cleanup(unsigned long long number)
     return old.was;
 }
 
-/* ---- links, and ephemerons, of which gc.h has none */
+/* ---- links, and ephemerons, which gc.h doesn't have */
 
 static GC_bool is_word(void *link) { return ((word)link & (ALIGNMENT - 1)) == 0; }
 
 typedef derrimas_finalizers_code making(derrimas_finalizers *, derrimas_finalizers_link_kind, uint64_t word, uint64_t target, derrimas_finalizers_linked *);
 
-/* Makes a link of a word, or an ephemeron, whose target is its key. */
+/* Makes a link of a word, or an ephemeron, whose target is then its key. */
 __attribute__((always_inline)) GC_INLINE int make(GC_bool is_ephemeron, derrimas_finalizers_link_kind kind, void **link, const void *target)
 {
     making *const how = is_ephemeron ? derrimas_finalizers_ephemeron : derrimas_finalizers_link;
@@ -390,7 +391,7 @@ __attribute__((always_inline)) GC_INLINE int make(GC_bool is_ephemeron, derrimas
         ABORT("A disappearing link at no word");
     if (EXPECT(GC_find_leak, FALSE))
         return GC_UNIMPLEMENTED;
-    value = is_ephemeron ? *link : NULL; /* the word retains it only once it is an ephemeron */
+    value = is_ephemeron ? *link : NULL; /* the word retains it only after it has become an ephemeron */
     LOCK();
     GC_ASSERT(target != NULL && GC_base_C(target) == target);
     done = is_open() && how(&finalizers, kind, place, hidden, &answer) == DERRIMAS_FINALIZERS_OK;
@@ -494,14 +495,14 @@ static void push_roots(derrimas_finalizers_root sort)
     while (derrimas_finalizers_roots(&finalizers, sort, &from, some, sizeof some / sizeof *some, &count) == DERRIMAS_FINALIZERS_OK) {
         for (i = 0; i < count; i++)
             GC_PUSH_ONE_HEAP((word)SHOW(some[i]), &finalizers, GC_mark_stack_top);
-        /* Of many roots the stack would run over. */
+        /* With many roots the mark stack would overflow. */
         if ((size_t)(GC_mark_stack_top - GC_mark_stack) > GC_mark_stack_size / 2)
             while (!GC_mark_stack_empty())
                 MARK_FROM_MARK_STACK();
     }
 }
 
-/* It may come in an open pass: where the mark stack ran over, bdwgc marks from all its roots again. */
+/* bdwgc may call this while a pass is open: after a mark stack overflow it marks from all its roots again. */
 GC_API void GC_CALL GC_push_finalizer_structures(void)
 {
     push_roots(DERRIMAS_FINALIZERS_HELD_OBJECTS);
@@ -510,13 +511,14 @@ GC_API void GC_CALL GC_push_finalizer_structures(void)
         push_roots(DERRIMAS_FINALIZERS_REGISTERED_DATA);
 }
 
-/* ---- rings: no pass queues an object that leads to itself, and bdwgc warns of it. In a pass no call may ask why, so it is told once that has ended. */
+/* ---- rings: a pass queues no object that reaches itself, and bdwgc warns of such an object. derrimas_finalizers_why can't be called in a pass, so the warning
+ * comes after the pass. */
 
-enum { MOST_STEPS = 32 }; /* of a ring that is told; a longer one is told up to there */
+enum { MOST_STEPS = 32 }; /* of a reported ring; a longer one is reported up to there */
 
-static uint64_t ring, told_ring; /* the first object of this pass that leads to itself, or 0; the one of the last pass, whose ring was told */
+static uint64_t ring, told_ring; /* the first object of this pass that reaches itself, or 0; the one of the last pass, whose ring was reported */
 
-/* How many words of an object are looked at. Where a descriptor isn't a length it isn't read, and no ring goes by the object. */
+/* The number of words of an object that are looked at. A descriptor that isn't a length isn't interpreted, so no reported ring goes through that object. */
 static word scanned_words(const hdr *header)
 {
     const word descr = header->hb_descr;
@@ -524,7 +526,8 @@ static word scanned_words(const hdr *header)
     return (descr & GC_DS_TAGS) != GC_DS_LENGTH ? 0 : BYTES_TO_WORDS(descr < header->hb_sz ? descr : header->hb_sz);
 }
 
-/* The object to which a word points, or NULL. Where an address within an object doesn't count, one does at a distance that GC_register_displacement was given. */
+/* The object to which a word points, or NULL. If interior addresses aren't recognized, those at a displacement registered by GC_register_displacement still
+ * are. */
 static ptr_t pointed(word value)
 {
     const ptr_t object = (ptr_t)GC_base((void *)value);
@@ -533,8 +536,8 @@ static ptr_t pointed(word value)
     return GC_all_interior_pointers || (distance < VALID_OFFSET_SZ && GC_valid_offsets[distance]) ? object : NULL;
 }
 
-/* Each word counts, so none has a number: the short links that are left have reachable targets, and the collector scans the words of ephemerons with their
- * objects. */
+/* Every word counts as a plain pointer, so none gets a number: the remaining short links have reachable targets, and the collector scans the words of
+ * ephemerons with their objects. */
 static bool ring_child(void *nothing, uint64_t object, uint64_t n, uint64_t *link, uint64_t *child)
 {
     word *const at = (word *)(void *)SHOW(object) + n;
@@ -549,7 +552,7 @@ static bool ring_child(void *nothing, uint64_t object, uint64_t n, uint64_t *lin
     return true;
 }
 
-/* bdwgc's roots reach no ring that is told. */
+/* No ring that is reported is reachable from bdwgc's roots. */
 static bool no_root(void *nothing, uint64_t n, uint64_t *root)
 {
     (void)nothing;
@@ -564,7 +567,7 @@ static bool is_ring_data(void *nothing, uint64_t cd)
     return SHOW(cd) != NULL && (ptr_t)GC_base(SHOW(cd)) == SHOW(cd);
 }
 
-/* The first word of an object that points to another; the object's own address if none does. */
+/* The address of the object's first word that points to the other object, or the object's own address if there is none. */
 static ptr_t word_to(ptr_t object, ptr_t other)
 {
     const word count = scanned_words(HDR(object));
@@ -575,7 +578,7 @@ static ptr_t word_to(ptr_t object, ptr_t other)
     return n < count ? object + n * sizeof(word) : object;
 }
 
-/* Warns of each object of the ring, and of its word by which the ring goes on. Any of these words may be cut. */
+/* Warns of each object of the ring, and of its word that leads to the next object. Clearing any of these words breaks the ring. */
 static void tell_ring(const uint64_t *path, size_t length)
 {
     size_t i;
@@ -586,7 +589,7 @@ static void tell_ring(const uint64_t *path, size_t length)
     }
 }
 
-/* The same ring is told once in the passes that follow each other, since that takes as long as marking. */
+/* Successive passes report the same ring only once, since finding it takes as long as marking. */
 static void warn_of_ring(void)
 {
     static const derrimas_paths paths = {ring_child, no_root, is_ring_data};
@@ -606,11 +609,11 @@ static void warn_of_ring(void)
 
 /* ---- the answers to a pass */
 
-/* What was looked up last for a question: its objects and words are often neighbours. */
+/* The last lookup for a question, cached because its objects and words are often neighbours. */
 struct lookup {
-    struct hblk *block; /* of an object, and its header */
+    struct hblk *block; /* the block of an object, and its header */
     hdr *header;
-    ptr_t holder; /* of a word, with its size, and whether it is marked */
+    ptr_t holder; /* the object that holds a word, its size, and whether it is marked */
     size_t size;
     bool is_marked;
 };
@@ -641,7 +644,7 @@ GC_INLINE bool is_marked(struct lookup *last, ptr_t object)
 GC_INLINE bool mark_words(struct lookup *last, ptr_t object, void (*words)(ptr_t))
 {
     if (is_marked(last, object))
-        return false; /* by the mark of another in this question, with all to which it leads */
+        return false; /* already marked in this question from another object, with all that it reaches */
     GC_MARKED_FOR_FINALIZATION(object);
     GC_MARK_FO(object, words);
     if (!is_marked(last, object))
@@ -656,7 +659,7 @@ GC_INLINE bool mark_words(struct lookup *last, ptr_t object, void (*words)(ptr_t
 GC_INLINE bool mark_children(struct lookup *last, ptr_t object) { return mark_words(last, object, GC_normal_finalize_mark_proc); }
 GC_INLINE bool mark_others(struct lookup *last, ptr_t object) { return mark_words(last, object, GC_ignore_self_finalize_mark_proc); }
 
-/* Sets the mark of an object, which was looked up last and has none. */
+/* Sets the mark of an unmarked object that was looked up last. */
 GC_INLINE void set_mark(struct lookup *last, ptr_t object)
 {
     set_mark_bit_from_hdr(last->header, bit_of(last, object));
@@ -673,7 +676,7 @@ GC_INLINE bool mark_alone(struct lookup *last, ptr_t object)
     return false;
 }
 
-/* Without Java's rule, what an object leads to isn't kept for a finalizer that wants no order. */
+/* Without Java's rule, a NO_ORDER finalizer doesn't retain what its object reaches. */
 GC_INLINE bool mark(struct lookup *last, ptr_t object)
 {
     if (GC_java_finalization && !is_marked(last, object))
@@ -681,7 +684,7 @@ GC_INLINE bool mark(struct lookup *last, ptr_t object)
     return mark_alone(last, object);
 }
 
-/* What a word points to, which bdwgc doesn't scan with the word's object. */
+/* Marks the target of a word that bdwgc doesn't scan with the word's object. */
 GC_INLINE bool mark_value(struct lookup *last, ptr_t link)
 {
     ptr_t value = pointed(*(word *)(void *)link);
@@ -712,13 +715,13 @@ GC_INLINE bool holder_is_marked(struct lookup *last, ptr_t link)
     return last->is_marked;
 }
 
-/* The marks of 64 granules of a block, from one on. */
+/* The marks of 64 granules of a block, starting at this one. */
 GC_INLINE uint64_t marks_from(const hdr *header, word granule)
 {
 #ifdef USE_MARK_BYTES
     uint64_t marks = 0, eight, i;
 
-    for (i = 0; i < 64; i += 8) { /* bytes, each of which is 0 or 1: the product has their bits in its highest byte */
+    for (i = 0; i < 64; i += 8) { /* each byte is 0 or 1: the product has the bits of all eight in its highest byte */
         memcpy(&eight, header->hb_marks + granule + i, sizeof eight);
         marks |= eight * UINT64_C(0x0102040810204080) >> 56 << i;
     }
@@ -728,8 +731,8 @@ GC_INLINE uint64_t marks_from(const hdr *header, word granule)
 #endif
 }
 
-/* The word of a region, which lies in one block: a block has a multiple of 64 granules. Where a block is free or gone, or is a further one of a large object,
- * no object begins. */
+/* The word of a region. A region is within one block, since a block has a multiple of 64 granules. No object begins in a block that is free or unmapped, or in
+ * a further block of a large object. */
 GC_INLINE uint64_t marks_in(struct lookup *last, ptr_t first)
 {
     const hdr *header = header_of(last, first);
@@ -741,11 +744,11 @@ GC_INLINE uint64_t marks_in(struct lookup *last, ptr_t first)
     return marks_from(header, BYTES_TO_GRANULES(first - (ptr_t)last->block));
 }
 
-/* So many ones, from the lowest bit on. */
+/* A word whose lowest `count` bits are set. */
 GC_INLINE uint64_t ones(word count) { return count < 64 ? (UINT64_C(1) << count) - 1 : ~UINT64_C(0); }
 
-/* For 64 granules of a block of small objects, from one on, whether the objects are marked that have them. An object has its mark at its first granule, and what
- * lies behind the last object of a block has one at its first, too. */
+/* For 64 granules of a block of small objects, starting at this one: whether the object that contains the granule is marked. An object's mark is at its first
+ * granule. The rest behind the last object of a block has a mark at its first granule too. */
 GC_INLINE uint64_t live_from(const hdr *header, word granule)
 {
     const word size = BYTES_TO_GRANULES(header->hb_sz), before = granule % size;
@@ -754,7 +757,7 @@ GC_INLINE uint64_t live_from(const hdr *header, word granule)
     return marks_from(header, granule) * ones(size) | first;
 }
 
-/* The word of a region of words. Where it isn't in a block of small objects, it lies in one object up to the end of that, and behind it in none. */
+/* The word of a region of words. Outside of blocks of small objects a region is in one object up to that object's end, and behind it in none. */
 GC_INLINE uint64_t live_in(struct lookup *last, ptr_t first)
 {
     const hdr *header = header_of(last, first);
@@ -766,7 +769,7 @@ GC_INLINE uint64_t live_in(struct lookup *last, ptr_t first)
     return ~ones(BYTES_TO_GRANULES(last->holder + last->size + GRANULE_BYTES - 1 - first));
 }
 
-/* The words of all regions of a question. Each of its uses is a loop of its own. */
+/* The words of all regions of a question. It is inlined, so each use is a loop of its own. */
 __attribute__((always_inline)) GC_INLINE uint64_t words(derrimas_question *question, uint64_t (*word_in)(struct lookup *, ptr_t))
 {
     struct lookup last = {NULL, NULL, NULL, 0, false};
@@ -777,7 +780,7 @@ __attribute__((always_inline)) GC_INLINE uint64_t words(derrimas_question *quest
     return 0;
 }
 
-/* The answers about all objects or words of a question. Each of its uses is a loop of its own. */
+/* The answers about all objects or words of a question. It is inlined, so each use is a loop of its own. */
 __attribute__((always_inline)) GC_INLINE uint64_t each(const derrimas_question *question, bool (*answer)(struct lookup *, ptr_t))
 {
     struct lookup last = {NULL, NULL, NULL, 0, false};
@@ -818,7 +821,7 @@ static uint64_t answers_to(derrimas_question *question)
 
 /* ---- the pass */
 
-static uint64_t links_before[2]; /* how many short and long links stood before the last pass */
+static uint64_t links_before[2]; /* the numbers of short and long links before the last pass */
 
 GC_INNER void GC_finalize(void)
 {
@@ -844,7 +847,7 @@ GC_INNER void GC_finalize(void)
     tell_waiting();
     if (GC_fail_count == 0)
         return;
-    /* An allocation failed: finalizers that run may run others from now on, however deep. */
+    /* An allocation has failed: from now on finalizers may run others at any depth of nesting. */
 #ifdef THREADS
     GC_reset_finalizer_nested();
 #else
@@ -854,15 +857,16 @@ GC_INNER void GC_finalize(void)
 
 /* ---- the entries */
 
-/* An entry that was taken, with its addresses shown: from then on the stack alone keeps what it has. */
+/* An entry that was taken, with its addresses in clear: from then on only the stack retains its object and data. */
 struct taken {
     void *volatile object;
     void *volatile cd;
     GC_finalization_proc proc;
-    word freed; /* the bytes that were freed before */
+    word freed; /* the bytes freed before */
 };
 
-/* Takes an entry as finished, since its procedure may leave by longjmp or end its thread. Its addresses are shown before the lock is given back. */
+/* Takes an entry and finishes it at once, since its procedure may leave by longjmp or end its thread. Its addresses are in clear before the lock is
+ * released. */
 static GC_bool take(struct taken *taken)
 {
     derrimas_finalizers_entry entry;
@@ -872,7 +876,7 @@ static GC_bool take(struct taken *taken)
     LOCK();
     was = derrimas_finalizers_take_finished(&finalizers, &entry) == DERRIMAS_FINALIZERS_OK;
     if (was) {
-        taken->object = entry.obj ? SHOW(entry.obj) : NULL; /* that of a cleanup has none */
+        taken->object = entry.obj ? SHOW(entry.obj) : NULL; /* an entry of a cleanup has none */
         taken->cd = SHOW(entry.cd);
         taken->proc = (GC_finalization_proc)(word)entry.proc;
         taken->freed = GC_bytes_freed;
@@ -912,17 +916,17 @@ GC_API void GC_CALL GC_finalize_all(void)
     LOCK();
     while (GC_fo_entries > 0) {
         (void)derrimas_finalizers_queue_all(&finalizers, &queued);
-        GC_bytes_finalized = GRANULES_TO_BYTES((word)queued); /* each is at least that large */
+        GC_bytes_finalized = GRANULES_TO_BYTES((word)queued); /* each object is at least this large */
         GC_fo_entries = 0;
         tell_waiting();
         UNLOCK();
-        (void)GC_invoke_finalizers(); /* its procedures may register further objects */
+        (void)GC_invoke_finalizers(); /* the procedures may register further objects */
         LOCK();
     }
     UNLOCK();
 }
 
-/* ---- what stands, for people */
+/* ---- dumps for debugging */
 
 #ifndef NO_DEBUGGING
 enum { PART = 64 }; /* of a walk */
@@ -975,7 +979,7 @@ GC_API void GC_CALL GC_dump_finalization(void)
     dump_links(DERRIMAS_FINALIZERS_LONG);
     GC_printf("objects with finalizers:\n");
     dump_registrations();
-    if (counts.short_ephemerons + counts.long_ephemerons > 0) { /* without these and cleanups it prints as many lines as bdwgc by itself */
+    if (counts.short_ephemerons + counts.long_ephemerons > 0) { /* without these and cleanups it prints as many lines as bdwgc alone */
         GC_printf("ephemerons:\n");
         dump_ephemerons(DERRIMAS_FINALIZERS_SHORT);
         dump_ephemerons(DERRIMAS_FINALIZERS_LONG);

@@ -1,4 +1,4 @@
-/* What the programs here share, beside what those of c/compare have too: chance, and the lines of a dump. */
+/* Shared by the programs here, in addition to what the programs of c/compare share: random numbers, and the lines of a dump. */
 #ifndef GRAPH_H
 #define GRAPH_H
 

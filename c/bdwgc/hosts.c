@@ -1,6 +1,6 @@
-/* hosts: two hosts of the library in one process, one of them the shared libgc over it. This program links the archive for a handle of its own, whose
- * memory is bdwgc's, under the lock that bdwgc holds as it calls the library: so it hangs where bdwgc's finalizers take memory by this allocator. It also
- * defines the names by which the library's proved part takes memory. No call comes to them.
+/* hosts: two hosts of the library in one process, one of which is the shared libgc over it. This program links the archive for a handle of its own, whose
+ * memory is bdwgc's. bdwgc holds its lock while it calls the library, so the program would deadlock if bdwgc's finalizers used this allocator. It also defines
+ * the names by which the library's proved part takes memory; no call may reach them.
  */
 #include <pthread.h>
 #include "derrimas_finalizers.h"
@@ -13,7 +13,7 @@ void *derrimas_realloc(void *memory, size_t size);
 void derrimas_free(void *memory);
 
 static derrimas_finalizers own;
-static unsigned calls, standing, ran, wrong; /* calls of the allocator, and what isn't given back to it */
+static unsigned calls, standing, ran, wrong; /* calls of the allocator, and the blocks not yet freed */
 
 static void expect(bool right)
 {
@@ -65,7 +65,7 @@ static void release(void *data, void *memory)
     GC_free(memory);
 }
 
-/* ---- both hosts, call by call in turn */
+/* ---- both hosts, alternating call by call */
 
 static void note(void *object, void *cd)
 {
@@ -100,7 +100,7 @@ APART static void register_in_turn(void **words)
         unsigned before = calls;
         GC_register_finalizer(object, note, (void *)n, 0, 0);
         expect(GC_general_register_disappearing_link(&words[n], object) == GC_SUCCESS);
-        expect(calls == before); /* bdwgc's handle has memory of its own */
+        expect(calls == before); /* bdwgc's handle has its own memory */
         register_ours(n + 1, n + 2);
     }
 }

@@ -1,13 +1,14 @@
-/* kinds MODE FIRST COUNT: graphs of chance with all that gc.h has of finalization, whose outputs are to be the same over both libraries.
+/* kinds MODE FIRST COUNT: random graphs with all of gc.h's finalization calls. Their outputs have to be the same over both libraries.
  *
- * Beside what compare/random.c has, there are the kind `unreachable`, toggle references, the awaited procedure, the notifier, the old procedures and data
- * that a registration tells, and GC_finalize_all at the end. MODE is `java`, `plain`, which leaves Java's rule and so the kind `unreachable` out, or `once`,
- * in which the collection itself invokes finalizers. With -DGC_DEBUG objects, links and finalizers are those of bdwgc's debugging.
+ * In addition to what compare/random.c has, there are the kind `unreachable`, toggle references, the awaited procedure, the notifier, the old procedures and
+ * data that a registration returns, and GC_finalize_all at the end. MODE is `java`; `plain`, which turns Java's rule off and so omits the kind `unreachable`;
+ * or `once`, in which the collection itself invokes finalizers. With -DGC_DEBUG objects, links and finalizers are those of bdwgc's debugging calls.
  *
- * An object's first word is its number. What a finalizer does is of its own object alone and was drawn before, as the two run them in unlike orders.
- * Where they are known to differ, graphs keep away: entries of graphs with the kind `unreachable` are invoked after each collection, and the awaited
- * procedure leaves such objects out. (bdwgc registers them again where an entry still leads to them, and tells them as awaited all the same.) Without
- * Java's rule what an object that wants no order leads to may be gone when its finalizer runs: so it runs at once, and clears the object's words.
+ * An object's first word is its number. A finalizer acts only on its own object, and its actions are chosen in advance, because the two libraries run
+ * finalizers in different orders. The graphs avoid the known differences: with the kind `unreachable`, entries are invoked after each collection, and the
+ * awaited procedure ignores such objects. (bdwgc registers them again if an entry still reaches them, and reports them as awaited all the same.) Without Java's
+ * rule an object reachable only from a NO_ORDER object may be reclaimed before the finalizer runs. So that finalizer runs at once, and clears the object's
+ * words.
  */
 #include "graph.h"
 #include <gc/gc_mark.h>
@@ -94,11 +95,11 @@ static GC_ToggleRefStatus toggled(void *base)
 
 APART static void make_objects(void)
 {
-    static void *outside[2]; /* no object of the heap: its finalizer never runs */
+    static void *outside[2]; /* not an object of the heap: its finalizer never runs */
 
     memset(objects, 0, sizeof objects);
     roots = GC_MALLOC_UNCOLLECTABLE(MOST * sizeof *roots);
-    shorts = calloc(MOST, sizeof *shorts); /* words that no object holds */
+    shorts = calloc(MOST, sizeof *shorts); /* words outside of all objects */
     longs = GC_MALLOC_ATOMIC_UNCOLLECTABLE(MOST * sizeof *longs);
     GC_REGISTER_FINALIZER(outside, note, 0, 0, 0);
     for (unsigned n = 0; n < count; n++) {
@@ -195,7 +196,7 @@ static void play(void)
         drop_roots();
         collect();
         printf(" notified %u, waiting %d", notified, GC_should_invoke_finalizers() != 0);
-        if (!is_once && (!is_java || kinds == KINDS || chance(3) > 0)) /* else they wait for a later round */
+        if (!is_once && (!is_java || kinds == KINDS || chance(3) > 0)) /* otherwise they wait for a later round */
             GC_invoke_finalizers();
         tell();
     }

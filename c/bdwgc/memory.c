@@ -1,5 +1,6 @@
-/* memory: the library is refused memory, over its own bdwgc alone, by the linker's --wrap of its opening. The collector's procedure for that is asked once a
- * call, and the memory that it found is freed; then the call is made again. Without that a call changes nothing. And bdwgc's allocator, by itself.
+/* memory: tests the library when it is refused memory, over its own bdwgc alone, by the linker's --wrap of its opening. GC_oom_fn is called once for each call,
+ * the memory that it returns is freed, and the call is repeated. If it returns none, the call changes nothing. Also tests the allocator of finalize.c by
+ * itself.
  */
 #include "derrimas_finalizers.h"
 #include "graph.h"
@@ -33,7 +34,7 @@ derrimas_finalizers_code __wrap_derrimas_finalizers_open(derrimas_finalizers *fi
     own = options->allocator;
     between.allocator.allocate = allocate;
     between.allocator.reallocate = reallocate;
-    between.marks = between.live = false; /* a registration or a link that lacks memory for its region alone is accepted */
+    between.marks = between.live = false; /* a registration or link that only lacks memory for its region is accepted */
     return __real_derrimas_finalizers_open(finalizers, &between);
 }
 
@@ -52,7 +53,7 @@ static void note(void *object, void *cd)
 
 static void expect(bool right) { wrong += !right; }
 
-/* Registers and links, with as many refusals before each call. */
+/* Makes registrations and links, with this number of refusals before each call. */
 APART static void make(unsigned times, void **words)
 {
     for (unsigned n = 0; n < OBJECTS; n++) {
@@ -96,18 +97,19 @@ static void play(void)
            unlinked ? "not all" : "all", ran + unregistered + 10 >= OBJECTS ? "those ran" : "too few ran", wrong);
 }
 
-/* ---- the procedure for memory collects: what the call was given is retained until then */
+/* ---- GC_oom_fn collects: what was passed to the call is retained until then */
 
 enum { TURNS = 60 };
 
-static struct { unsigned turn, tried, lost; } *of_all; /* shared by processes, in each of which the first call asks for memory */
+static struct { unsigned turn, tried, lost; } *of_all; /* shared between processes, in each of which the first call requests memory */
 
 static uintptr_t hidden_fresh; /* the object that the call has to retain */
-static bool tells, is_retained; /* whether the library tells what its calls retain, and whether it told that object since the collection */
+static bool tells, is_retained; /* whether the library reports what its calls retain, and whether it reported that object since the collection */
 
 void reachable_here(const void *object);
 
-/* A conservative collector may find what a call let go, by an address that is left on the stack. So a library that was built with reachable.h calls this, too. */
+/* A conservative collector may find an object that a call no longer retains, by an address left on the stack. So a library built with reachable.h calls this
+ * too. */
 void reachable_here(const void *object)
 {
     tells = true;
@@ -122,13 +124,13 @@ static void *find_by_collecting(size_t size)
     return GC_malloc(size);
 }
 
-/* An object that nothing reaches, with a long link that is cleared once it is lost. */
+/* An unreachable object with a long link, which is cleared when the object is reclaimed. */
 APART static void *fresh(void **aux)
 {
     *aux = GC_MALLOC(16);
     GC_register_long_link(aux, *aux);
     hidden_fresh = ~(uintptr_t)*aux;
-    scrub(); /* the last call had it in its frame, in which the next one has places that it doesn't write */
+    scrub(); /* the last call left the address in its frame, and the next call doesn't overwrite all of that */
     refusals = 1;
     return *aux;
 }
@@ -139,14 +141,14 @@ APART static void register_fresh(void **aux) { GC_register_finalizer(fresh(aux),
 APART static void register_data(void **aux, void *object) { GC_register_finalizer(object, note, fresh(aux), 0, 0); }
 APART static int key_fresh(void **aux, void **word) { return GC_register_ephemeron(word, fresh(aux)); }
 
-/* The word alone has the value, and retains it only from the call on. */
+/* Only the word has the value, and it retains the value only from the call on. */
 APART static int key_value(void **aux, void **word, void *object)
 {
     *word = fresh(aux);
     return GC_register_ephemeron(word, object);
 }
 
-/* Each kind of call in a process of its own, whose last collection is within the call. */
+/* Runs each kind of call in a process of its own, whose last collection happens within the call. */
 static void lose(void)
 {
     void **words = calloc(2, sizeof *words), *object = GC_MALLOC_UNCOLLECTABLE(16);
@@ -172,7 +174,7 @@ static void lose_none(void)
     printf("a collection in between: %s, wrong %u\n", of_all->tried == TURNS ? "tried" : "too few", of_all->lost);
 }
 
-/* ---- bdwgc's own allocator */
+/* ---- the allocator of finalize.c */
 
 enum { BLOCKS = 3000, SMALL = 2048, MOST = 5000, CHANGES = 100000, PAGE = 4096 };
 
@@ -185,7 +187,7 @@ static bool is_guarded;
 void *__real_mmap(void *at, size_t size, int access, int flags, int file, off_t from);
 void *__wrap_mmap(void *at, size_t size, int access, int flags, int file, off_t from);
 
-/* With a page behind it that can't be read. */
+/* A page behind it can't be read. */
 void *__wrap_mmap(void *at, size_t size, int access, int flags, int file, off_t from)
 {
     size_t whole = (size + PAGE - 1) / PAGE * PAGE;
@@ -211,7 +213,7 @@ static bool has(const struct block *it, size_t size)
     return true;
 }
 
-/* A block that is freed is the next one of its size. */
+/* A freed block is the next one allocated of its size. */
 static void give_back(struct block *it)
 {
     void *again;

@@ -1,5 +1,5 @@
-/* overflow: passes in which the mark stack runs over. bdwgc then marks from all its roots again, the stack among them, in the open pass. Of objects that
- * aren't led to, one alone may be kept for it: the one whose marking ran over. Held entries from the pass before are kept meanwhile.
+/* overflow: passes in which the mark stack overflows. bdwgc then marks from all its roots again, the stack included, while the pass is open. Of the unreachable
+ * objects only one may be retained by that: the one whose marking overflowed. Held entries of the previous pass are retained meanwhile.
  */
 #include "graph.h"
 
@@ -14,7 +14,7 @@ static void note(void *object, void *cd)
     ran[(uintptr_t)cd]++;
 }
 
-/* A list whose marking keeps an entry of the mark stack for each node. */
+/* A list whose marking keeps one entry on the mark stack for each node. */
 static void *make_list(void)
 {
     void **first = 0;
@@ -80,7 +80,7 @@ int main(void)
     live = GC_MALLOC_UNCOLLECTABLE(sizeof *live);
     words = GC_MALLOC_ATOMIC_UNCOLLECTABLE(2 * (LISTS + OLD + 1) * sizeof *words);
     make_old();
-    collect(); /* their entries wait */
+    collect(); /* their entries are waiting */
     make_lists();
     for (unsigned n = 0; n < 4; n++) {
         collect();

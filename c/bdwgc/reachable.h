@@ -1,5 +1,5 @@
-/* Comes before finalize.c, by -include, in the libraries of `wrong`: there GC_reachable_here is a call, and not an empty line of assembly. So a program sees what
- * calls retain, and until when.
+/* Included before finalize.c, by -include, in the libraries of `wrong`. There GC_reachable_here is a function call instead of an empty line of assembly, so a
+ * program can observe what calls retain, and until when.
  */
 #ifndef _GNU_SOURCE
 #define _GNU_SOURCE 1 /* as in finalize.c */

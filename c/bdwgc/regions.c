@@ -1,23 +1,23 @@
-/* regions: objects of all sizes with finalizers and with words that have links, some of which go in each round, in blocks of one size and in large ones. Each finalizer
- * that is due runs once, and none of an object that stays. A word that has a link is cleared once its target has gone, and not before; links from objects that are
- * gone are gone too. What is gone leaves blocks that are free, or that have objects of another size in the next round.
+/* regions: objects of all sizes, with finalizers and with linked words, some of which are dropped in each round, in blocks of one size and in large ones. Each
+ * finalizer that is due runs once, and no finalizer of a retained object runs. A linked word is cleared after its target is reclaimed, and not before. Links
+ * from reclaimed objects are gone too. Reclaimed memory leaves blocks that are free, or that have objects of another size in the next round.
  */
 #include "graph.h"
 
 enum { OBJECTS = 3000, ROUNDS = 8, SIZES = 15, SMALL = 9, FEW = 20, PROCESSES = 16, PAIR = 8184 };
 
-static const size_t sizes[SIZES] = {8, 24, 40, 56, 72, 104, 1000, 1016, 1032, 2040, 4000, 4088, PAIR, 8200, 100000}; /* in bdwgc at least a byte more, so one has two whole blocks */
+static const size_t sizes[SIZES] = {8, 24, 40, 56, 72, 104, 1000, 1016, 1032, 2040, 4000, 4088, PAIR, 8200, 100000}; /* bdwgc adds a byte: two blocks */
 
-/* The objects that stay are a root. What is known of each that ever was isn't scanned: its address is hidden. */
+/* The retained objects are in a root. The records of all objects that were ever made aren't scanned: their addresses are hidden. */
 static void **objects;
 static unsigned *number; /* of the object at each place of the root */
 static struct known {
     uintptr_t hidden;
     size_t size;
-    bool is_registered, is_due, is_gone; /* due: it went with a finalizer, which hasn't run */
+    bool is_registered, is_due, is_gone; /* due: the object was dropped with a finalizer that hasn't run yet */
 } *known;
 
-/* The link from a word of the object at each place of the root, if there is one. Objects aren't scanned. */
+/* The link from a word of the object at each place of the root, if it has one. Objects aren't scanned. */
 static struct link {
     size_t word;
     unsigned target; /* its number */
@@ -36,7 +36,7 @@ static void note(void *object, void *cd)
 
 static void **word_of(unsigned n, size_t word) { return (void **)objects[n] + word; }
 
-/* The first word of an object, its last one, or any. */
+/* The first word of an object, its last word, or any word. */
 static size_t some_word(unsigned n)
 {
     const unsigned words = (unsigned)(known[number[n]].size / sizeof(void *)), way = chance(4);
@@ -44,13 +44,13 @@ static size_t some_word(unsigned n)
     return way < 2 ? 0 : way == 2 ? chance(words) : words - 1;
 }
 
-/* Makes the link from an object, or tells that there is one. */
+/* Makes the link from an object. Returns GC_DUPLICATE if it exists already. */
 static int make_link(unsigned n, void *target)
 {
     return (links[n].is_long ? GC_register_long_link : GC_general_register_disappearing_link)(word_of(n, links[n].word), target);
 }
 
-/* In the place of each object that is gone there is a new one. Of some others the finalizer is removed, or given again. */
+/* Replaces each dropped object by a new one. Removes the finalizers of some others, or registers them again. */
 APART static void make(void)
 {
     for (unsigned n = 0; n < OBJECTS; n++) {
@@ -69,7 +69,7 @@ APART static void make(void)
     }
 }
 
-/* From some objects that have none there are links to others. A word that has one already would be that of an object that is gone. */
+/* Makes links from some objects without one to others. A word that already has a link would be a word of a reclaimed object. */
 APART static void link_some(void)
 {
     for (unsigned n = 0; n < OBJECTS; n++) {
@@ -83,7 +83,7 @@ APART static void link_some(void)
     }
 }
 
-/* Some links are removed, and some are moved to words of objects that have none. */
+/* Removes some links, and moves some to words of objects that have none. */
 APART static void move_some(void)
 {
     for (unsigned n = 0; n < OBJECTS; n++) {
@@ -104,7 +104,7 @@ APART static void move_some(void)
     }
 }
 
-/* Few objects or many, and all of some parts. */
+/* Drops few objects or many, and all of some parts. */
 APART static void drop(void)
 {
     for (unsigned n = 0; n < OBJECTS; n++)
@@ -117,7 +117,8 @@ APART static void drop(void)
         }
 }
 
-/* How many links there are. A word is cleared whose target is gone, unless something on the stack looks like it; no other word is, and its link stands. */
+/* The number of links. A word whose target was reclaimed is cleared, unless something on the stack looks like the target's address. No other word is cleared,
+ * and its link still exists. */
 APART static unsigned linked(unsigned *left)
 {
     unsigned count = 0;
@@ -136,7 +137,7 @@ APART static unsigned linked(unsigned *left)
     return count;
 }
 
-/* How many finalizers are registered. */
+/* The number of registered finalizers. */
 static unsigned registered(void)
 {
     unsigned count = 0;
@@ -159,7 +160,7 @@ static void play(void)
         drop();
         collect();
         (void)GC_invoke_finalizers();
-        collect(); /* what was finalized is reclaimed */
+        collect(); /* finalized objects are reclaimed */
         (void)GC_invoke_finalizers();
         lines = without_links + linked(&left) + registered();
         printf("round %u: %s ran, links %s, %s, wrong %u\n", round_now, ran <= due && ran + FEW >= due ? "those that were due" : "others", left <= FEW ? "cleared" : "left",

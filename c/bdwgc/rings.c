@@ -1,11 +1,11 @@
-/* rings: what is told of objects with finalizers that lead to themselves, by the procedure of GC_set_warn_proc, over the replaced library alone: each object of
- * a ring, and its word by which that goes on. Where one of these words is cut, the finalizers come.
+/* rings: the warnings about objects with finalizers that reach themselves, by the procedure of GC_set_warn_proc, over the replaced library alone: each object
+ * of a ring, and its word that leads to the next one. After one of these words is cleared, the finalizers run.
  */
 #include "graph.h"
 
 enum { RINGS = 20, FEW = 4, SIZE = 3, WORDS = 4, MOST = 64 };
 
-/* What was told last, and how many lines were: addresses are hidden from the collector. */
+/* The last report, and its number of lines. Addresses are hidden from the collector. */
 static uintptr_t told[MOST];
 static unsigned lines, short_lines, ended;
 static void *in_use;
@@ -24,8 +24,8 @@ static void finalizer(void *object, void *cd)
     ended++;
 }
 
-/* A ring of objects, each of which points with its last word to the next one. The first has a finalizer, and its last word a short link to what is in use: that
- * isn't cleared, so the ring goes by the word. */
+/* A ring of objects, each of which points to the next one by its last word. The first has a finalizer, and its last word has a short link to a reachable
+ * object. That link isn't cleared, so the word is part of the ring. */
 APART static void make(void)
 {
     void **first = GC_MALLOC(WORDS * sizeof(void *)), **last = first;
@@ -42,7 +42,8 @@ APART static void make(void)
         fail("a link");
 }
 
-/* Whether the lines are of a ring: each word is the last of the object before it, and points to the next object, and that of the last one to the first. */
+/* Whether the lines describe a ring: each word is the last word of the object before it and points to the next object, and the word of the last object points
+ * to the first one. */
 APART static bool is_ring(void)
 {
     for (unsigned n = 0; n < lines; n += 2) {
@@ -75,7 +76,7 @@ int main(void)
     collect();
     (void)GC_invoke_finalizers();
     printf("it is told once: %s, wrong %u\n", short_lines + FEW < RINGS ? "too few" : "enough", wrong += lines > 0 || ended > 0);
-    lines = 2 * SIZE; /* those of the first collection stay: nothing was cut yet */
+    lines = 2 * SIZE; /* those of the first collection remain: no word was cleared yet */
     for (unsigned n = 0; n + FEW < RINGS; n++) {
         cut();
         lines = 0;

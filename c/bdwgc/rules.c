@@ -1,5 +1,5 @@
-/* rules: what else gc.h's calls keep: nothing is registered where bdwgc looks for leaks, how deep finalizers nest that a collection runs, and when the notifier
- * is called. Each in a process of its own.
+/* rules: other rules of gc.h's calls: nothing is registered if bdwgc looks for leaks, how deep finalizers run by a collection nest, and when the notifier is
+ * called. Each is tested in a process of its own.
  */
 #include "graph.h"
 
@@ -17,7 +17,7 @@ static void note(void *object, void *cd)
 
 static void notify(void) { notified++; }
 
-/* ---- bdwgc looks for leaks: no registration and no link is made */
+/* ---- bdwgc looks for leaks: registrations and links aren't made */
 
 static void leaks(void)
 {
@@ -38,7 +38,7 @@ static void leaks(void)
     printf(", again %d %d\n", old == note, old_cd == &ran);
 }
 
-/* ---- a collection in a finalizer: what it queues waits, unless an allocation has failed */
+/* ---- a collection in a finalizer: the entries that it queues wait, unless an allocation has failed */
 
 static bool is_scarce;
 static void **objects;
@@ -83,7 +83,7 @@ static void nests_scarcely(void)
     nests();
 }
 
-/* ---- the notifier is called where finalizers wait, once a collection */
+/* ---- the notifier is called if finalizers wait, once for each collection */
 
 static void notifies(void)
 {

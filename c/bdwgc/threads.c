@@ -1,8 +1,8 @@
 /* threads EACH: threads that make objects, register finalizers of all kinds, link, move and unlink words, and drop the objects, while collections run.
  *
- * The client data of a finalizer is a record in the heap that nothing else leads to, with a short and a long link to the object: when the finalizer runs,
- * the record is whole, the short word is 0, and the long one still leads to the object. Nearly all finalizers are to run by collections alone, and at
- * last each exactly once.
+ * The client data of a finalizer is a record in the heap that nothing else reaches, with a short and a long link to the object. When the finalizer runs, the
+ * record is intact, the short word is 0, and the long one still points to the object. Nearly all finalizers have to be run by collections alone, and in the end
+ * each exactly once.
  */
 #include <pthread.h>
 #include "graph.h"
@@ -10,7 +10,7 @@
 enum { THREADS = 4, OBJECT_WORDS = 3, CHAIN = 5, SPARE = 16, COLLECTIONS = 100 };
 #define MAGIC ((uintptr_t)0x6465727269)
 
-/* Atomic: its words keep nothing. `moved` is the word where the short link stands at first. */
+/* Atomic: its words retain nothing. `moved` is the word where the short link is at first. */
 struct record {
     uintptr_t magic, number;
     void *moved, *is_short, *is_long, *none;
@@ -19,7 +19,7 @@ struct record {
 static unsigned each, *ran, wrong, refused, collections;
 static void **alive; /* words outside of the heap, with long links to the records */
 static bool is_over; /* the makers have ended */
-static bool is_last; /* GC_finalize_all runs: it asks for no mark, and clears no link */
+static bool is_last; /* GC_finalize_all runs: it makes no mark queries, and clears no link */
 
 static unsigned total(void) { return THREADS * each; }
 static void add(unsigned *counter) { __atomic_add_fetch(counter, 1, __ATOMIC_RELAXED); }
@@ -48,7 +48,7 @@ static void expect(bool right)
         add(&refused);
 }
 
-/* An object that leads to the last one, or, where a chain is long enough, to nothing. */
+/* An object that points to the last one, or to nothing if a chain is long enough. */
 static void *make(unsigned number, void *last)
 {
     static const registering registers[] = {GC_register_finalizer, GC_register_finalizer_ignore_self, GC_register_finalizer_no_order,
@@ -60,7 +60,7 @@ static void *make(unsigned number, void *last)
     if (!object || !r)
         fail("memory");
     object[0] = number % CHAIN ? last : 0;
-    object[1] = number % 4 == 1 ? object : 0; /* to itself, of kind ignore_self */
+    object[1] = number % 4 == 1 ? object : 0; /* to itself, with kind ignore_self */
     *r = (struct record){MAGIC + number, number, object, 0, object, 0};
     alive[number] = r;
     expect(GC_register_long_link(&alive[number], r) == GC_SUCCESS);
@@ -85,7 +85,7 @@ APART static void make_all(unsigned first)
 
     for (unsigned n = 0; n < each; n++) {
         last = make(first + n, last);
-        /* In the second half more entries wait than finalize.c reads at once as roots. */
+        /* In the second half more entries wait than finalize.c reads at a time as roots. */
         if (n % (n < each / 2 ? 16 : 1024) == 0)
             GC_invoke_finalizers();
         while (__atomic_load_n(&collections, __ATOMIC_RELAXED) < (uint64_t)COLLECTIONS * n / each)
@@ -100,7 +100,7 @@ static void *thread(void *first)
     return 0;
 }
 
-/* Collects all the while. The makers invoke, so that collections come between all that an invocation does; and they wait for collections. */
+/* Collects all the time. The makers invoke finalizers, so that collections happen at any point of an invocation, and they wait for collections. */
 static void *collecting(void *nothing)
 {
     while (!__atomic_load_n(&is_over, __ATOMIC_RELAXED)) {

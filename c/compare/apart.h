@@ -1,5 +1,5 @@
-/* What the programs here share with those of c/bdwgc: an end where something fails; and over bdwgc its opening, processes of their own, and collections that find
- * nothing of earlier calls on the stack.
+/* Shared by the programs here and those of c/bdwgc: ending on a failure. Over bdwgc also: opening it, separate processes, and collections that find nothing
+ * left on the stack by earlier calls.
  */
 #ifndef APART_H
 #define APART_H
@@ -7,7 +7,7 @@
 #include <stdio.h>
 #include <stdlib.h>
 
-/* Of a procedure that handles objects, below one that collects: so nothing of it is left in a frame or a register that bdwgc scans. */
+/* For procedures that handle objects and are called by one that collects. Nothing of them may be left in a frame or a register that bdwgc scans. */
 #define APART __attribute__((noinline))
 
 static inline void fail(const char *what)
@@ -21,12 +21,12 @@ static inline void fail(const char *what)
 #include <sys/wait.h>
 #include <unistd.h>
 
-/* Finalizers run, and collections come, where they are called for. */
+/* Finalizers run, and collections happen, only when called for. */
 static inline void open_bdwgc(void)
 {
     GC_INIT();
     GC_set_finalize_on_demand(1);
-    GC_set_java_finalization(1); /* what a picked no-order object leads to is kept, too */
+    GC_set_java_finalization(1); /* objects reachable from a queued no-order object are retained too */
     GC_disable();
 }
 
@@ -52,7 +52,7 @@ APART __attribute__((unused)) static void collect(void)
     scrub();
 }
 
-/* Calls the procedure in a process of its own, where nothing of earlier calls is left, and of which nothing stays. */
+/* Calls the procedure in a separate process, where nothing of earlier calls is left, and of which nothing remains. */
 static inline void in_a_process(void (*procedure)(void))
 {
     pid_t child;

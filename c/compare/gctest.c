@@ -1,5 +1,5 @@
-/* Finalizers and disappearing links in the manner of bdwgc's tests/gctest.c: trees of which some nodes have finalizers and links, chains, rings,
- * revival, the answers of links. It prints counts, which are to be the same over bdwgc and over derrimas.h.
+/* Finalizers and disappearing links in the manner of bdwgc's tests/gctest.c: trees in which some nodes have finalizers and links, chains, cycles, resurrection,
+ * and the return values of links. The counts that it prints have to be the same over bdwgc and over derrimas.h.
  */
 #include "layer.h"
 
@@ -15,7 +15,7 @@ static void count_node(uint64_t cd)
     finalized++;
 }
 
-/* the words of links: word n stands in the object of root base + n / PER_OBJECT */
+/* the words of links: word n is in the object of root base + n / PER_OBJECT */
 static void open_words(int base)
 {
     for (int n = 0; n < MOST / PER_OBJECT; n++)
@@ -29,7 +29,7 @@ static void link_word(int base, unsigned n, bool is_long, int target)
     store(at, offset, target);
     if (make_link(is_long, at, offset, target) != 0)
         wrong++;
-    /* as gctest does: register again, take it away, and register it anew */
+    /* as in gctest: register again, unregister, and register anew */
     if (make_link(is_long, at, offset, target) != 1)
         wrong++;
     if (remove_link(is_long, at, offset) == 0)
@@ -49,7 +49,7 @@ static unsigned live_words(int base)
     return live;
 }
 
-/* a tree of height n in the root `at`; the roots above it are free */
+/* a tree of height n in the root `at`; the roots above that are unused */
 static void make_tree(int at, int n)
 {
     if (n == 0) {
@@ -124,7 +124,7 @@ static void print_order(const char *name)
     ordered = 0;
 }
 
-/* a chain of registered objects, each leading to the next: one finalizer for each collection, in order */
+/* a chain of registered objects, each pointing to the next: one finalizer in each collection, in order */
 APART static void make_chain(int kind, unsigned length)
 {
     forget(TMP);
@@ -154,7 +154,7 @@ static void chain(int kind, unsigned length)
     ordered = 0;
 }
 
-/* two objects that lead to each other, and one that leads to itself */
+/* two objects that point to each other, and one that points to itself */
 APART static void make_rings(int kind)
 {
     new_object(TMP, 1, false);
@@ -189,7 +189,7 @@ static void revive(uint64_t cd)
     note(cd);
 }
 
-/* an object that its finalizer keeps: the short link goes first, the long one with the object */
+/* an object that its finalizer retains: the short link is cleared first, the long one with the object */
 static void revival(void)
 {
     bool first[2], kept[2], last[2];
@@ -220,7 +220,7 @@ static void revival(void)
     forget(TMP);
 }
 
-/* the answers of links, as gctest checks them */
+/* the return values of links, as gctest checks them */
 static void answers(void)
 {
     for (int is_long = 0; is_long < 2; is_long++) {
@@ -242,7 +242,7 @@ static void answers(void)
     }
 }
 
-/* an unregistered finalizer doesn't run; client data is kept; a replacement runs alone */
+/* an unregistered finalizer doesn't run; client data is retained; of two registrations only the second one's finalizer runs */
 static void registering(void)
 {
     new_object(TMP, 1, false);

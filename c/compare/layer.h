@@ -1,7 +1,7 @@
-/* One program over three collectors: with BDWGC over bdwgc, with OWN_HEAP over the heap of examples/own_heap, else over derrimas.h.
+/* One program over three collectors: with BDWGC over bdwgc, with OWN_HEAP over the heap of examples/own_heap, otherwise over derrimas.h.
  *
- * Objects stand in numbered roots. A root leads to its object; a link is a word of an object. Sizes and offsets are in words. Over bdwgc the
- * stack and the registers of the processor are roots too, so the layer overwrites what calls left there before it collects.
+ * Objects are in numbered roots. A root points to its object; a link is a word of an object. Sizes and offsets are in words. Over bdwgc the stack and the
+ * processor's registers are roots too, so the layer overwrites what earlier calls left there before it collects.
  */
 #ifndef LAYER_H
 #define LAYER_H
@@ -30,7 +30,7 @@ static inline void layer_open(void)
 
 static inline void layer_close(void) { GC_free(roots); }
 
-/* Calls the procedure where nothing of earlier calls is left: bdwgc has no second world, so another process does. */
+/* Calls the procedure where nothing of earlier calls is left. bdwgc can't open a second world, so it runs in another process. */
 static inline void layer_apart(void (*procedure)(void)) { in_a_process(procedure); }
 
 static inline void new_object(int at, uint64_t size, bool is_atomic)
@@ -48,11 +48,11 @@ static inline void copy(int at, int to) { roots[to] = roots[at]; }
 static inline void store(int at, uint64_t offset, int from) { ((void **)roots[at])[offset] = roots[from]; }
 static inline bool load(int at, uint64_t offset, int to) { return (roots[to] = ((void **)roots[at])[offset]) != 0; }
 
-/* A root's word as a number that keeps no object, and back: while the object lives. */
+/* Converts a root's word to a number that retains no object, and back while the object is live. */
 static inline uint64_t number_in(int at) { return (uint64_t)GC_HIDE_POINTER(roots[at]); }
 static inline void aim(int at, uint64_t number) { roots[at] = GC_REVEAL_POINTER(number); }
 
-/* The client data of a registration is the number of a row of this table, which isn't an address. */
+/* The client data of a registration is the index of a row in this table, and not an address. */
 static struct closure { finalizer run; uint64_t cd; } closures[1 << 16];
 static unsigned made = 0;
 

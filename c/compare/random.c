@@ -1,17 +1,18 @@
-/* random FIRST COUNT: graphs of chance over bdwgc and over derrimas.h, whose outputs are to be the same.
+/* random FIRST COUNT: random graphs over bdwgc and over derrimas.h. Their outputs have to be the same.
  *
- * A graph has up to 60 objects, scanned and atomic, which lead to each other at random. Some have finalizers of the three kinds. Some finalizers keep
- * their objects, make rings of them, register them again, or move their links from word to word. All objects have a long link, and half of them a short
- * one, in two objects that stay; atomic ones have links in their own words. In each of some rounds roots are dropped, objects of the others are changed,
- * and a collection follows. Then the line of the round tells how often each finalizer has run, and which words of links are 0: so a 0 among the long
- * ones says that the object is gone. What a finalizer does is of its own object alone and was drawn before, since the two run them in unlike orders.
+ * A graph has up to 60 objects, scanned and atomic, with random edges. Some have finalizers of the three kinds. Some finalizers retain their objects, make
+ * cycles of them, register them again, or move their links from word to word. All objects have a long link, and half of them a short one, in two objects that
+ * are never dropped; atomic objects have links in their own words. Each graph has a few rounds: roots are dropped, objects that are still rooted are changed,
+ * and a collection follows. Then a line reports how often each finalizer has run, and which words of links are 0: among the long ones, a 0 means that the
+ * object was reclaimed. A finalizer acts only on its own object, and its actions are chosen in advance, because the two collectors run finalizers in different
+ * orders.
  */
 #include "layer.h"
 #include <string.h>
 
 enum { MOST = 60, WORDS = 4, ROUNDS = 5, FOUND = 90, SHORTS = 100, LONGS = 101, HOLDER_WORDS = 64 };
 
-/* ---- chance */
+/* ---- random numbers */
 
 static uint64_t seed;
 
@@ -29,16 +30,16 @@ struct object {
     unsigned words;
     unsigned runs;
     int again; /* the kind with which its finalizer registers it again, or -1 */
-    int moved; /* what the moves of its finalizer answered */
+    int moved; /* the results of the moves that its finalizer made */
     bool is_atomic, is_rooted, has_short, keeps, rings, moves;
-    bool has_link[WORDS]; /* of an atomic object: a link stood there once, so that its word is an address, or 0 */
+    bool has_link[WORDS]; /* of an atomic object: the word had a link once, so its value is an address, or 0 */
 };
 
 static struct object objects[MOST];
 static int count;
 static uint64_t number; /* of the graph */
 
-/* Moves the links of the object in a root along its words, from each to the next, and puts all answers into a number. */
+/* Moves the links of the object in a root along its words, from each to the next, and combines the results in a number. */
 static int moved_along(int root, unsigned words)
 {
     int answers = 0;
@@ -49,8 +50,8 @@ static int moved_along(int root, unsigned words)
     return answers;
 }
 
-/* The finalizer of all: it counts that it ran, and may put its object into its root again, or do more with it. Its client data is the object's number,
- * which is far below the heap: a larger one might be an address of the library's heap, and keep what stands there. */
+/* The finalizer of all objects. It counts its calls, and may put its object into its root again, or do more with it. Its client data is the object's number,
+ * which is far below the heap: a larger number might be an address of the library's heap, and retain the object there. */
 static void note(uint64_t n)
 {
     struct object *o = &objects[n];
@@ -70,7 +71,7 @@ static void note(uint64_t n)
     o->is_rooted = true;
 }
 
-/* A rooted object of chance, or -1. */
+/* A random rooted object, or -1. */
 static int rooted(void)
 {
     int n = (int)chance((unsigned)count);
@@ -100,7 +101,7 @@ APART static void make_objects(void)
     }
 }
 
-/* ---- changes: each of rooted objects alone */
+/* ---- changes: each affects only rooted objects */
 
 static void connect(int n, int to)
 {
@@ -108,7 +109,7 @@ static void connect(int n, int to)
         store(n, chance(objects[n].words), to);
 }
 
-/* A link in a word of an atomic object, or one moved or removed there. */
+/* Makes a link in a word of an atomic object, or moves or removes the link that is there. */
 static void change_link(int n, int target)
 {
     struct object *o = &objects[n];
@@ -174,7 +175,7 @@ APART static void drop_roots(void)
         }
 }
 
-/* ---- what is told of a round */
+/* ---- the line of a round */
 
 static bool is_zero(int at, uint64_t offset)
 {
@@ -216,7 +217,7 @@ static void play(void)
         change(round == 0 ? 4 * (unsigned)count : (unsigned)count);
         drop_roots();
         collect();
-        if (chance(3) > 0) /* else they wait for a later round */
+        if (chance(3) > 0) /* otherwise they wait for a later round */
             invoke();
         tell();
     }

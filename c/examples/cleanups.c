@@ -1,11 +1,11 @@
-/* Cleanups over the heap of own_heap. A file's number is the client data of a cleanup, so the collection that finds the object lost frees it at once. An object
- * with a finalizer stays until that has run: its short cleanup comes with the first collection, and its long one with the second.
+/* Cleanups over the heap of own_heap. The client data of a cleanup is a file's number, so the object is freed by the collection that finds it unreachable. An
+ * object with a finalizer is retained until the finalizer has run: its short cleanup is queued by the first collection, and its long one by the second.
  */
 #include "own_heap.h"
 #include <stdio.h>
 #include <stdlib.h>
 
-enum { FINALIZE, FORGET, CLOSE }; /* procedures */
+enum { FINALIZE, FORGET, CLOSE }; /* the procedures */
 
 static void run(const derrimas_finalizers_entry *entry)
 {
@@ -20,7 +20,7 @@ static void collect(own_heap *heap)
     (void)own_heap_run(heap, run);
 }
 
-/* Fails the program where memory is short. Numbers below 65,536 are no addresses, so this client data retains nothing. */
+/* Ends the program if memory runs out. Numbers below 65,536 aren't addresses, so this client data retains nothing. */
 static uint64_t add(own_heap *heap, uint64_t object, derrimas_finalizers_when when, uint64_t proc, uint64_t number)
 {
     uint64_t cleanup;
@@ -45,7 +45,7 @@ int main(void)
     add(&heap, roots[1], DERRIMAS_FINALIZERS_SHORT, FORGET, 2);
     if (derrimas_finalizers_register(&heap.finalizers, roots[1], DERRIMAS_FINALIZERS_NORMAL, FINALIZE, 2, 0, NULL, NULL))
         return 1;
-    (void)derrimas_finalizers_cancel(&heap.finalizers, cancelled, NULL); /* its file was closed by hand */
+    (void)derrimas_finalizers_cancel(&heap.finalizers, cancelled, NULL); /* its file was already closed by hand */
     roots[0] = roots[1] = 0;
     collect(&heap);
     collect(&heap);

@@ -1,5 +1,5 @@
-/* A weak table over the heap of own_heap, whose values lead to their keys. A row is a link at the word of the key, and an ephemeron of that key at the word of the
- * value. The table isn't scanned, so a row keeps neither.
+/* A weak table over the heap of own_heap, whose values reach their keys. A row is a link at the word of the key, and an ephemeron of that key at the word of
+ * the value. The table isn't scanned, so a row retains neither of them.
  */
 #include "own_heap.h"
 #include <stdio.h>
@@ -55,7 +55,7 @@ int main(void)
         put(roots[0], n, key, value);
     }
     collect(roots[0]);
-    roots[2] = 0; /* the key of that row has no other user */
+    roots[2] = 0; /* nothing else uses the key of that row */
     collect(roots[0]);
     roots[1] = roots[3] = 0;
     collect(roots[0]);

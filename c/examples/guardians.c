@@ -9,8 +9,8 @@
 #include <stdlib.h>
 
 enum { FIRST, LAST };            /* words of a guardian: the first and the last cell of its list, or 0 */
-enum { GUARDIAN, OBJECT, NEXT }; /* words of a cell */
-enum { CAR, CDR };               /* words of a weak pair. The car is a word in an object of its own, which isn't scanned */
+enum { GUARDIAN, OBJECT, NEXT }; /* the words of a cell */
+enum { CAR, CDR };               /* the words of a weak pair. The car is a word in a separate object, which isn't scanned */
 
 static own_heap heap;
 
@@ -81,7 +81,7 @@ static uint64_t weak_cons(uint64_t car, uint64_t cdr)
 /* 0: the car was cleared. */
 static uint64_t weak_car(uint64_t pair) { return *words_of(words_of(pair)[CAR]); }
 
-/* ---- a program: the word of an object is its number, and 0 stands for no object */
+/* ---- a program: the word of an object is its number; 0 is no object */
 
 enum { THE_GUARDIAN, OBJECTS, PAIRS = OBJECTS + 2, ROOTS = PAIRS + 2 };
 

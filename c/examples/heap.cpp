@@ -8,9 +8,9 @@
 
 using derrimas::finalizers;
 
-static constexpr std::uint64_t WEAK = std::uint64_t{1} << 32; /* words from here on lie outside of the heap, in `weak` */
+static constexpr std::uint64_t WEAK = std::uint64_t{1} << 32; /* words with this number or a higher one are outside of the heap, in `weak` */
 
-/* An object has at most 16 words, whose numbers are those from its own on. */
+/* An object has at most 16 words. Their numbers start at the object's own. */
 struct heap {
     std::map<std::uint64_t, std::vector<std::uint64_t>> objects;
     std::map<std::uint64_t, std::uint64_t> weak;
@@ -23,7 +23,7 @@ struct heap {
         return number;
     }
 
-    /* ---- what a pass asks */
+    /* ---- the questions of a pass */
 
     bool is_marked(std::uint64_t object) const { return marked.count(object) == 1; }
     void mark_alone(std::uint64_t object) { marked.insert(object); }
@@ -47,7 +47,7 @@ struct heap {
                 mark(word);
     }
 
-    /* Marks, makes a pass, and reclaims what isn't marked. */
+    /* Marks, makes a pass, and frees the unmarked objects. */
     void collect(finalizers &finalizers)
     {
         marked.clear();

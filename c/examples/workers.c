@@ -1,4 +1,4 @@
-/* workers: threads that run the finalizers of own_heap, while the program goes on to make objects. */
+/* workers: threads that run the finalizers of own_heap, while the program keeps making objects. */
 #include "derrimas_workers.h"
 #include "own_heap.h"
 #include <pthread.h>
@@ -6,7 +6,7 @@
 
 enum { ROUNDS = 10, OBJECTS = 100 };
 
-static pthread_mutex_t lock = PTHREAD_MUTEX_INITIALIZER; /* of the heap and its finalizers */
+static pthread_mutex_t lock = PTHREAD_MUTEX_INITIALIZER; /* guards the heap and its finalizers */
 static uint64_t closed;                                  /* atomic */
 
 static void enter(void *heap)
@@ -21,14 +21,14 @@ static void leave(void *heap)
     pthread_mutex_unlock(&lock);
 }
 
-/* What a worker does with an entry, without the lock: it closes a file, say. */
+/* Handles an entry in a worker, without the lock. A real program might close a file here. */
 static void run(void *heap, const derrimas_finalizers_entry *entry)
 {
     (void)heap;
     __atomic_fetch_add(&closed, entry->cd, __ATOMIC_RELAXED);
 }
 
-/* Makes objects that are unreachable at once, collects, and gives what is queued to the workers. */
+/* Makes objects that are garbage at once, collects, and publishes the queued entries to the workers. */
 static bool round_of(own_heap *heap, derrimas_workers *workers, uint64_t *roots)
 {
     bool right = true;
@@ -62,7 +62,7 @@ int main(void)
         return 1;
     printf("closed %d, finished %d, abandoned %d\n", (int)closed, (int)counts.finished, (int)counts.abandoned);
     while (own_heap_collect(&heap) > 0)
-        continue; /* all of them are garbage now */
+        continue; /* now all of them are garbage */
     own_heap_close(&heap);
     return 0;
 }

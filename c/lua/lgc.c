@@ -1,9 +1,9 @@
-/* lgc.c of Lua 5.4 over derrimas_finalizers.h: it stands in the place of the package's own file, which is compiled with it as lgc_package.c.
+/* lgc.c of Lua 5.4 over derrimas_finalizers.h. It replaces the package's own file, which is compiled into it as lgc_package.c.
  *
- * Which objects have finalizers, which of them a collection calls, in which order, and what waits, are the library's. Lua's own are the marker,
- * weak tables, generations, the calls of finalizers and their pace. Objects with finalizers stay in the list of all objects.
+ * The library records which objects have finalizers, decides which of them a collection calls and in which order, and keeps the entries that wait. Lua keeps
+ * its marker, weak tables, generations, the calls of finalizers and their pace. Objects with finalizers stay in the list of all objects.
  *
- * `patches.py` says what is changed in the package's files: it leaves out the functions that this one has, and what the package does with its two further lists.
+ * `patches.py` has the changes to the package's files: it removes the functions that this file has, and the package's use of its two further lists.
  */
 #define lgc_c
 #define LUA_CORE
@@ -21,13 +21,13 @@
 
 /* ---- what the package's file calls */
 
-/* Makes a pass, or queues all that is registered. */
+/* Makes a pass, or queues everything that is registered. */
 static void separatetobefnz(global_State *g, int all);
 
-/* How many entries wait, which Lua counts as work. */
+/* The number of waiting entries, which Lua counts as work. */
 static lu_mem waiting(global_State *g);
 
-/* Marks the objects of entries that wait, at the beginning of a collection. */
+/* Marks the objects of waiting entries at the beginning of a collection. */
 static void markbeingfnz(global_State *g);
 
 /* Takes the object whose finalizer is called next. */
@@ -35,7 +35,7 @@ static GCObject *udata2finalize(global_State *g);
 
 static int has_waiting(const global_State *g);
 
-/* At the end of a young collection; when all objects become old; when none is old any more. */
+/* Called at the end of a young collection; when all objects become old; when none is old any more. */
 static void young_collection_ends(global_State *g);
 static void all_become_old(global_State *g);
 static void none_is_old(global_State *g);
@@ -59,22 +59,22 @@ struct page {
     GCObject *objects[PLACES];
 };
 
-/* A region and its page, which is NULL once all of its objects have been taken. */
+/* A region and its page. The page is NULL once all of its objects have been taken. */
 struct region {
     uint64_t first;
     struct page *page;
 };
 
-/* What the state has of finalizers, from the first registration on. */
+/* The finalization data of a state, allocated by the first registration. */
 struct finalizing {
     derrimas_finalizers finalizers;
     uint64_t next;             /* the number of the next registration */
-    uint64_t old;              /* the objects of this number and of higher ones are old */
-    uint64_t surviving;        /* the same of objects that are old after the next young collection */
-    struct region *regions;    /* by falling numbers */
-    size_t count, room, gone;  /* how many there are, with those without a page; room for so many; how many have no page */
-    size_t last;               /* where one was found last: the next one is often the same, or the one before it */
-    uint64_t most;             /* the most registrations and entries since memory was given back */
+    uint64_t old;              /* objects with this number or a higher one are old */
+    uint64_t surviving;        /* those with this number or a higher one are old after the next young collection */
+    struct region *regions;    /* sorted by falling number */
+    size_t count, room, gone;  /* the regions, including those without a page; the capacity; the regions without a page */
+    size_t last;               /* the index of the last lookup: the next one is often the same, or the one before it */
+    uint64_t most;             /* the most registrations and entries since memory was last freed */
 };
 
 static uint64_t region_of(uint64_t number) { return number - number % (STEP * PLACES); }
@@ -85,7 +85,7 @@ static size_t place_of(uint64_t number) { return number / STEP % PLACES; }
  * Lua's allocator is told the size of a block that it changes or frees, so each block of the library has its size before it. None of it counts in GCdebt: a
  * collection gives none of it back, and without the library a registration takes no memory, so the pace of collections is the same. */
 
-enum { HEAD = 16, KIND = 1 << 16 };  /* for the allocator: the blocks are of a kind that none of Lua's objects is */
+enum { HEAD = 16, KIND = 1 << 16 };  /* for the allocator: the blocks have a kind that no object of Lua has */
 
 static void *changed(global_State *g, void *memory, size_t size)
 {
@@ -120,7 +120,7 @@ static void release(void *of, void *memory)
     (void)(*g->frealloc)(g->ud, block, had, 0);
 }
 
-/* The state's finalizers, or NULL without memory. */
+/* The state's finalizers. NULL: out of memory. */
 static struct finalizing *opened(global_State *g)
 {
     const derrimas_finalizers_options options = {sizeof options, {allocate, reallocate, release, g}, true, false};
@@ -157,7 +157,7 @@ static void close_finalizers(global_State *g)
 
 /* ---- pages */
 
-/* The region with this first number, or NULL. */
+/* The region with this first number, or NULL if there is none. */
 static struct region *found(struct finalizing *of, uint64_t first)
 {
     size_t from = 0, to = of->count;
@@ -190,7 +190,7 @@ static GCObject *object_of(struct finalizing *of, uint64_t number)
     return page_of(of, region_of(number))->objects[place_of(number)];
 }
 
-/* Makes room for a further region. False: there is no memory. */
+/* Makes room for one more region. False: out of memory. */
 static bool has_room(global_State *g, struct finalizing *of)
 {
     size_t room = of->room ? 2 * of->room : 8;
@@ -206,7 +206,7 @@ static bool has_room(global_State *g, struct finalizing *of)
     return true;
 }
 
-/* The page of the next registration, or NULL without memory. It is the last one, or a new one behind it. */
+/* The page for the next registration: the last one, or a new one behind it. NULL: out of memory. */
 static struct page *next_page(global_State *g, struct finalizing *of)
 {
     const uint64_t first = region_of(of->next);
@@ -214,7 +214,7 @@ static struct page *next_page(global_State *g, struct finalizing *of)
     struct page *page;
 
     if (last && last->page->count == 0)
-        last->first = first;  /* nothing of it is left */
+        last->first = first;  /* none of its objects is left */
     if (last && last->first == first)
         return last->page;
     page = has_room(g, of) ? (struct page *)allocate(g, sizeof *page) : NULL;
@@ -226,7 +226,7 @@ static struct page *next_page(global_State *g, struct finalizing *of)
     return page;
 }
 
-/* Closes the gaps of regions that are gone. */
+/* Removes the regions without a page from the array. */
 static void close_gaps(struct finalizing *of)
 {
     size_t i, kept = 0;
@@ -238,7 +238,7 @@ static void close_gaps(struct finalizing *of)
     of->gone = 0;
 }
 
-/* Forgets the object of a number whose entry was taken. The last page stays: the next registration may use it. */
+/* Removes the object of a number whose entry was taken. The last page stays allocated, since the next registration may use it. */
 static void forget(global_State *g, struct finalizing *of, uint64_t number)
 {
     struct region *region = found(of, region_of(number));
@@ -255,7 +255,7 @@ static void forget(global_State *g, struct finalizing *of, uint64_t number)
 
 /* ---- registrations */
 
-/* Registers a finalizer of the object. False: there is no memory, and nothing has changed. */
+/* Registers a finalizer of the object. False: out of memory, and nothing has changed. */
 static bool registered(global_State *g, GCObject *object)
 {
     struct finalizing *of = opened(g);
@@ -270,8 +270,8 @@ static bool registered(global_State *g, GCObject *object)
     return true;
 }
 
-/* Gives the object a finalizer if the metatable has one. It is called before the object gets the metatable. Without memory it collects garbage once, and then
- * raises Lua's error: nothing has changed then. FINALIZEDBIT says that the object is registered or has an entry. */
+/* Registers a finalizer of the object if the metatable has one. It is called before the object gets the metatable. If memory runs out it collects garbage once.
+ * If that doesn't help it raises Lua's memory error, and nothing has changed. FINALIZEDBIT is set while the object is registered or has an entry. */
 void luaC_checkfinalizer(lua_State *L, GCObject *o, Table *mt)
 {
     global_State *g = G(L);
@@ -294,7 +294,7 @@ static bool is_marked(void *data, uint64_t number)
     return !iswhite(object_of(((global_State *)data)->finalizing, number));
 }
 
-/* Marks the object. Lua marks what all of these reach once the pass has ended: no question that comes after this one asks what is marked. */
+/* Marks the object. Lua marks everything reachable from these objects after the pass: no later question of the pass reads marks. */
 static void mark(void *data, uint64_t number)
 {
     global_State *g = (global_State *)data;
@@ -303,7 +303,7 @@ static void mark(void *data, uint64_t number)
     markobject(g, object);
 }
 
-/* The marks of a region. In a young collection old objects are marked; these aren't looked at. */
+/* The marks of a region. In a young collection old objects are always marked, so they aren't read. */
 static uint64_t marks(void *data, uint64_t first)
 {
     struct finalizing *of = ((global_State *)data)->finalizing;
@@ -322,7 +322,7 @@ static uint64_t marks(void *data, uint64_t first)
     return word;
 }
 
-/* After a peak gives memory back: most objects with finalizers are gone by then. */
+/* Frees memory after a peak, once most objects with finalizers are gone. */
 static void give_back(struct finalizing *of)
 {
     derrimas_finalizers_counts counts;
@@ -338,7 +338,7 @@ static void give_back(struct finalizing *of)
     of->most = now;
 }
 
-/* All registrations are NO_ORDER, and there are no links, ephemerons or cleanups: a pass asks nothing else. */
+/* All registrations are NO_ORDER, and there are no links, ephemerons or cleanups, so a pass needs only these functions. */
 static void separatetobefnz(global_State *g, int all)
 {
     static const derrimas_host host = {is_marked, NULL, mark, NULL, NULL, NULL, marks, NULL, NULL};
@@ -348,12 +348,12 @@ static void separatetobefnz(global_State *g, int all)
     if (all)
         (void)derrimas_finalizers_queue_all(&g->finalizing->finalizers, NULL);
     else if (derrimas_finalizers_pass(&g->finalizing->finalizers, &host, g, NULL) != DERRIMAS_FINALIZERS_OK)
-        abort();  /* without a pass nothing may be reclaimed */
+        abort();  /* without a pass nothing may be swept */
     else
         give_back(g->finalizing);
 }
 
-/* ---- generations: registrations that are two young collections old are those of old objects */
+/* ---- generations: objects are old once two young collections have passed since their registration */
 
 static void young_collection_ends(global_State *g)
 {
@@ -413,7 +413,7 @@ static GCObject *udata2finalize(global_State *g)
     GCObject *object;
 
     if (derrimas_finalizers_take_finished(&g->finalizing->finalizers, &entry) != DERRIMAS_FINALIZERS_OK)
-        abort();  /* it is called where an entry waits */
+        abort();  /* only called if an entry waits */
     object = (GCObject *)(uintptr_t)entry.cd;
     forget(g, g->finalizing, entry.obj);
     resetbit(object->marked, FINALIZEDBIT);

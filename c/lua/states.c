@@ -1,5 +1,5 @@
-/* Several states of Lua in one process, each with an allocator of its own: what one of them registers, collects or closes changes nothing in another. Each gets
- * back all of its memory. */
+/* Several states of Lua in one process, each with its own allocator. What one of them registers, collects or closes changes nothing in another, and each frees
+ * all of its memory. */
 #include <stdio.h>
 #include <stdlib.h>
 #include <string.h>
@@ -35,14 +35,14 @@ static void *allocate(void *data, void *block, size_t had, size_t size)
     return other;
 }
 
-/* The numbers of the objects that were finalized, of all states. */
+/* Prints the numbers of finalized objects, for all states. */
 static int called(lua_State *L)
 {
     printf(" %d.%d", (int)lua_tointeger(L, lua_upvalueindex(1)), (int)lua_rawlen(L, 1));
     return 0;
 }
 
-/* A new object with a finalizer, as large as its number. */
+/* Pushes a new object with a finalizer. Its size is its number. */
 static void push_object(lua_State *L, int number)
 {
     lua_newuserdatauv(L, (size_t)number, 0);

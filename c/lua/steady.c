@@ -1,10 +1,11 @@
-/* An allocator for comparing two builds of Lua. The linker puts it in the place of the one with which a program makes its state: --wrap=lua_newstate,lua_close.
+/* An allocator for comparing two builds of Lua. The linker puts it in place of the one with which a program makes its state: --wrap=lua_newstate,lua_close.
  *
- * It never uses memory twice, so addresses are those of the sequence of Lua's own requests, and tables with objects as keys have the same order in both builds.
- * What is freed is spoilt. The blocks of the finalizers lie apart, are checked when they change, and have to be gone when the state is closed.
+ * It never reuses memory. So addresses depend only on the sequence of Lua's own requests, and tables with objects as keys have the same order in both builds.
+ * Freed memory is overwritten. The blocks of the finalizers are stored separately, are checked when they change, and must all be freed before the state is
+ * closed.
  *
- * LUA_REFUSED=N: each N-th request of Lua's own is refused once, after the first 3,000: a collection without finalizers follows, and the request comes again.
- * FINALIZERS_REFUSED=N: the N-th request of the finalizers is refused; with a minus, it and all after it.
+ * LUA_REFUSED=N: after the first 3,000, each N-th request of Lua's own is refused once; a collection without finalizers follows, and the request is repeated.
+ * FINALIZERS_REFUSED=N: the N-th request of the finalizers is refused; if N has a minus, this one and all later ones.
  */
 #include <stdint.h>
 #include <stdio.h>
@@ -14,7 +15,7 @@
 
 #include "lua.h"
 
-enum { KIND = 1 << 16 };  /* of the finalizers' blocks: that of lgc.c */
+enum { KIND = 1 << 16 };  /* the kind of the finalizers' blocks, as in lgc.c */
 
 #define SIZE ((size_t)64 << 30)
 
@@ -55,7 +56,7 @@ static void *changed(char *block, size_t had, size_t size)
     return size ? other : NULL;
 }
 
-/* A block of the finalizers: its size and a number stand before it. */
+/* A block of the finalizers. Its size and a number are stored before it. */
 static void *own_changed(char *block, size_t had, size_t size)
 {
     size_t *head = block ? (size_t *)(void *)block - 2 : NULL, *other = NULL;

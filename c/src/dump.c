@@ -1,17 +1,18 @@
-/* derrimas_finalizers_dump: a handle as lines of text, over the calls of derrimas_finalizers.h. Nothing here is proved. */
+/* derrimas_finalizers_dump: writes a handle as lines of text. It uses only the calls of derrimas_finalizers.h. Nothing here is proved; c/tests runs each line
+ * of it. */
 #include "derrimas_finalizers.h"
 #include <inttypes.h>
 #include <stdio.h>
 
 enum { PART = 64, LINE = 256, KINDS = 4 };
 
-/* Where the lines go. */
+/* The output buffer. */
 typedef struct sink {
     void (*line)(void *data, const char *text);
     void *data;
 } sink;
 
-/* How many registrations each kind has, and the one that was made first. */
+/* The number of registrations of each kind, and the oldest registration of each. */
 typedef struct registered {
     uint64_t of_kind[KINDS];
     derrimas_finalizers_registration_at oldest;
@@ -42,7 +43,7 @@ static registered registered_in(const derrimas_finalizers *finalizers)
     return all;
 }
 
-/* Between which passes a registration of this number was made, as far as that is noted. */
+/* Prints between which passes a registration of this number was made, as far as the handle has a note of that. */
 static void describe_age(const derrimas_finalizers_ages *ages, uint64_t number, char *text, size_t size)
 {
     const uint64_t notes = ages->passes >> ages->thinned;
@@ -74,8 +75,8 @@ static void tell_registered(const derrimas_finalizers_ages *ages, const register
     to->line(to->data, text);
 }
 
-/* The entry that was queued first and isn't finished: by its object, or, if it is the entry of a cleanup, by the cleanup's number. Those before the first one
- * that waits are held. */
+/* The oldest entry that is queued and not finished. It is given by its object, or by its number if it is the entry of a cleanup. Entries before the first
+ * waiting one are held. */
 static void tell_unfinished(const derrimas_finalizers *finalizers, const derrimas_finalizers_counts *counts, const sink *to)
 {
     derrimas_finalizers_entry first;

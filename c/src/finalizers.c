@@ -1,6 +1,6 @@
-/* derrimas_finalizers.h over the proved exports: their C types, places for results that may be NULL, kinds and options that are checked, each handle's
- * allocator, roots in the host's buffer, the texts of codes, and how many entries wait, which is read without the lock. Nothing here is proved; c/tests runs
- * each line of it.
+/* The calls of derrimas_finalizers.h, over the proved exports. This file adds their C types, checks kinds and options, lets result pointers be NULL, and keeps
+ * each handle's allocator. It also copies roots to the host's buffer, has the texts of codes, and keeps the number of waiting entries, which is read without
+ * the lock. Nothing here is proved; c/tests runs each line of it.
  */
 #include "finalizers_exports.h"
 #include "processor.h"
@@ -12,7 +12,7 @@ static bool is_kind(derrimas_finalizers_kind kind) { return (unsigned)kind <= DE
 static bool is_links(derrimas_finalizers_link_kind kind) { return (unsigned)kind <= DERRIMAS_FINALIZERS_LONG; }
 static bool is_root(derrimas_finalizers_root sort) { return (unsigned)sort <= DERRIMAS_FINALIZERS_REGISTERED_DATA; }
 
-/* A handle for calls that change nothing. */
+/* A copy of the handle, for calls that change nothing. */
 static derrimas_finalizers copied(const derrimas_finalizers *finalizers)
 {
     derrimas_finalizers copy = {.inside = finalizers->inside};
@@ -20,10 +20,10 @@ static derrimas_finalizers copied(const derrimas_finalizers *finalizers)
     return copy;
 }
 
-/* Under the lock alone is this changed, and without it read. */
+/* Written only under the lock, and read without it. */
 static void set_waiting(derrimas_finalizers *finalizers, uint64_t waiting) { __atomic_store_n(&finalizers->waiting, waiting, __ATOMIC_RELAXED); }
 
-/* ---- what a host is told of */
+/* ---- what the host's trace reports */
 
 void derrimas_finalizers_trace(derrimas_finalizers *finalizers, const derrimas_trace *trace) { finalizers->trace = trace; }
 
@@ -45,7 +45,7 @@ static void tell_cleared(const derrimas_finalizers *finalizers, const derrimas_q
         trace->cleared(trace->data, question->what[i]);
 }
 
-/* What a call returns, which has finished the entry if it was accepted. */
+/* Reports the entry as finished if the call was accepted. Returns the call's code. */
 static code finished(const derrimas_finalizers *finalizers, code it, const derrimas_finalizers_entry *entry)
 {
     const derrimas_trace *trace = finalizers->trace;
@@ -55,11 +55,11 @@ static code finished(const derrimas_finalizers *finalizers, code it, const derri
     return it;
 }
 
-/* ---- how old registrations are */
+/* ---- the age of registrations */
 
 enum { NOTES = sizeof((derrimas_finalizers_ages){0}.before) / sizeof(uint64_t) };
 
-/* A pass has begun: notes which number comes next. Where there is no place left, every second note goes. */
+/* Called when a pass begins: stores the next registration number. If the array is full, every second note is dropped. */
 static void note_pass(derrimas_finalizers_ages *ages)
 {
     ages->passes++;
@@ -74,11 +74,11 @@ static void note_pass(derrimas_finalizers_ages *ages)
 
 /* ---- memory */
 
-/* The allocator of the handle whose call this thread makes, or NULL where it makes none that takes or frees memory. The model "initial-exec" reads it without a
- * call: others may allocate in their first access, by malloc, which may be a collector's own. */
+/* The allocator of the handle whose call this thread is in, or NULL if it is in no call that takes or frees memory. With the TLS model "initial-exec" reading
+ * it needs no function call. Other models may allocate on first access by malloc, which may be a collector's own. */
 static __thread const derrimas_allocator *current __attribute__((tls_model("initial-exec")));
 
-/* An answer to the proved part: where there is no memory, the place of a byte that nothing uses. */
+/* The result for the proved part. If there is no memory, it points to a byte that nothing uses. */
 static rattle_tried tried(void *memory)
 {
     static char nothing;
@@ -87,8 +87,8 @@ static rattle_tried tried(void *memory)
     return it;
 }
 
-/* An allocator's function may make calls on another handle or on a world: so it runs as outside of a call. Where a size is 0, a block of the alignment is
- * taken, since an allocator may answer 0 bytes by NULL. */
+/* An allocator's function may make calls on another handle or on a world, so `current` is NULL while it runs. If the size is 0, a block as large as the
+ * alignment is allocated, since an allocator may return NULL for 0 bytes. */
 
 rattle_tried rattle_alloc(size_t size, size_t align)
 {
@@ -134,7 +134,7 @@ void rattle_dealloc(void *memory)
 
 void rattle_memory_by(const derrimas_allocator *allocator) { current = allocator; }
 
-/* What a call returns that took or freed memory by the handle's allocator: it has ended. */
+/* Ends a call that took or freed memory by the handle's allocator. Returns the call's code. */
 static code after_memory(code it)
 {
     current = NULL;
@@ -163,10 +163,10 @@ static const derrimas_allocator libc = {allocate_by_libc, reallocate_by_libc, re
 
 /* ---- opening */
 
-/* The sizes of the options: that of now, and that of a header without `marks` and `live`. */
+/* The accepted sizes of the options: the present one, and that of an older header without `marks` and `live`. */
 enum { SIZE = sizeof(derrimas_finalizers_options), SIZE_WITHOUT_MARKS = offsetof(derrimas_finalizers_options, marks) };
 
-/* All functions, or none: then memory is the C library's. */
+/* Either all functions are set, or none. If none is, memory comes from the C library. */
 static bool is_whole(const derrimas_allocator *memory)
 {
     return memory->allocate ? memory->reallocate && memory->release : !memory->reallocate && !memory->release;
@@ -235,7 +235,7 @@ code derrimas_finalizers_register(derrimas_finalizers *finalizers, uint64_t obje
         finalizers->ages.next = registered.number + 1;
     if (it == DERRIMAS_FINALIZERS_OK && number)
         *number = registered.number;
-    if (it == DERRIMAS_FINALIZERS_OK && old) { /* word by word, as the export wrote them: a processor waits where two are read as one */
+    if (it == DERRIMAS_FINALIZERS_OK && old) { /* word by word, as the export wrote them: loading two of them as one would stall the processor */
         old->proc = registered.replaced.proc;
         old->cd = registered.replaced.cd;
         old->was = registered.replaced.was;
@@ -250,7 +250,8 @@ code derrimas_finalizers_unregister(derrimas_finalizers *finalizers, uint64_t ob
     return fz_machine_unregister(finalizers, object, old ? old : &unwanted);
 }
 
-/* Writes an answer about links or ephemerons, of which an export returns gc.h's number, if the call was accepted and it has a place. */
+/* Writes the result of a call on links or ephemerons, if the call was accepted and the caller passed a place for it. The export returns the number that gc.h
+ * has for it. */
 static code answered(code it, uint8_t found, derrimas_finalizers_linked *answer)
 {
     if (it == DERRIMAS_FINALIZERS_OK && answer)
@@ -260,7 +261,7 @@ static code answered(code it, uint8_t found, derrimas_finalizers_linked *answer)
 
 typedef uint8_t call_about_links(derrimas_finalizers *, bool is_long, uint64_t word, uint64_t other, uint8_t *found);
 
-/* A call about links or ephemerons that may take memory, by its export. */
+/* Makes a call on links or ephemerons by its export, which may take memory. */
 static code linked_by(call_about_links *call, derrimas_finalizers *finalizers, derrimas_finalizers_link_kind kind, uint64_t word, uint64_t other,
                       derrimas_finalizers_linked *answer)
 {
@@ -361,7 +362,7 @@ code derrimas_finalizers_begin_from(derrimas_finalizers *finalizers, uint64_t fr
     return it;
 }
 
-/* The pass has ended: what it queued waits. */
+/* Ends the pass: what it queued is waiting now. */
 static void ended(derrimas_finalizers *finalizers, const derrimas_finalizers_passed *did, derrimas_finalizers_passed *passed)
 {
     set_waiting(finalizers, finalizers->waiting + did->picked);
@@ -392,7 +393,7 @@ code derrimas_finalizers_abandon(derrimas_finalizers *finalizers)
     if (it == DERRIMAS_FINALIZERS_OK && fz_machine_count(finalizers, &counts) == DERRIMAS_FINALIZERS_OK) {
         const uint64_t before = finalizers->waiting;
 
-        set_waiting(finalizers, counts.waiting); /* with those that the pass had queued */
+        set_waiting(finalizers, counts.waiting); /* including the ones that the pass had queued */
         tell_queued(finalizers, counts.passes, counts.waiting - before);
     }
     return it;
@@ -400,7 +401,7 @@ code derrimas_finalizers_abandon(derrimas_finalizers *finalizers)
 
 /* ---- the entries */
 
-/* What a call returns that queues without a pass: if it was accepted, so many more entries wait. */
+/* For a call that queues entries without a pass. If it was accepted, the number of waiting entries grows by `count`. Returns the call's code. */
 static code queued_now(derrimas_finalizers *finalizers, code it, uint64_t count, uint64_t *queued)
 {
     if (it != DERRIMAS_FINALIZERS_OK)
@@ -428,7 +429,8 @@ code derrimas_finalizers_queue_cleanups(derrimas_finalizers *finalizers, uint64_
     return queued_now(finalizers, it, count, queued);
 }
 
-/* What a take answers; if it was accepted, one entry fewer waits. What an open pass has queued counts from its end on, so less than none may wait till then. */
+/* Returns the code of a take. If it was accepted, one entry fewer waits. Entries that an open pass has queued are counted only when the pass ends, so until
+ * then the count may be negative. */
 static code taken(derrimas_finalizers *finalizers, code it)
 {
     if (it == DERRIMAS_FINALIZERS_OK)
@@ -453,9 +455,9 @@ code derrimas_finalizers_finish(derrimas_finalizers *finalizers, const derrimas_
 
 bool derrimas_finalizers_has_waiting(const derrimas_finalizers *finalizers) { return (int64_t)__atomic_load_n(&finalizers->waiting, __ATOMIC_RELAXED) > 0; }
 
-/* ---- what is registered, linked, keyed and added, and roots */
+/* ---- walks over registrations, links, ephemerons and cleanups, and roots */
 
-/* What a part of a walk returns, of which so many were copied: the next part begins behind them. */
+/* Returns the code for a part of a walk that copied so many items. The next part begins behind them. */
 static code walked(code it, size_t filled, uint64_t *from, size_t *count)
 {
     if (filled == 0)
@@ -465,7 +467,7 @@ static code walked(code it, size_t filled, uint64_t *from, size_t *count)
     return DERRIMAS_FINALIZERS_OK;
 }
 
-/* Whether the word is a root of the sort: the entry of a cleanup has no object, and its export returns 0. */
+/* Whether the word is a root of this sort. The entry of a cleanup has no object; its export returns 0. */
 static bool is_some_root(derrimas_finalizers_root sort, uint64_t word) { return word || sort != DERRIMAS_FINALIZERS_HELD_OBJECTS; }
 
 code derrimas_finalizers_roots(const derrimas_finalizers *finalizers, derrimas_finalizers_root sort, uint64_t *from, uint64_t *buffer, size_t room,
@@ -495,7 +497,7 @@ code derrimas_finalizers_roots(const derrimas_finalizers *finalizers, derrimas_f
     return DERRIMAS_FINALIZERS_OK;
 }
 
-/* A registration with its kind as C has it. */
+/* Converts a registration, with its kind as C has it. */
 static derrimas_finalizers_registration_at shown(const fz_machine_registration_at *found)
 {
     derrimas_finalizers_registration_at it;
@@ -527,7 +529,7 @@ code derrimas_finalizers_registrations(const derrimas_finalizers *finalizers, ui
 
 typedef uint8_t part_of_links(derrimas_finalizers *, bool is_long, uint64_t from, fz_machine_some_links *);
 
-/* A part of a walk over links or ephemerons, which an export shows. */
+/* Copies a part of a walk over links or ephemerons. */
 static code walked_by(part_of_links *part, const derrimas_finalizers *finalizers, derrimas_finalizers_link_kind kind, uint64_t *from,
                       derrimas_finalizers_link_at *buffer, size_t room, size_t *count)
 {
@@ -560,7 +562,7 @@ code derrimas_finalizers_ephemerons(const derrimas_finalizers *finalizers, derri
 
 static derrimas_finalizers_link_kind kind_of(bool is_long) { return is_long ? DERRIMAS_FINALIZERS_LONG : DERRIMAS_FINALIZERS_SHORT; }
 
-/* A cleanup with its moment as C has it. */
+/* Converts a cleanup, with its moment as C has it. */
 static derrimas_finalizers_cleanup_at shown_cleanup(const fz_machine_cleanup_at *found)
 {
     derrimas_finalizers_cleanup_at it;

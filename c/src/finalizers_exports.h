@@ -49,7 +49,7 @@ typedef struct fz_machine_some_cleanups {
     uint64_t count;
 } fz_machine_some_cleanups;
 
-/* A copy of a host's heap, which starts as {0}. */
+/* A copy of a host's heap. It is initialized to {0}. */
 typedef struct fz_snapshot {
     void *inside;
 } fz_snapshot;

@@ -1,11 +1,11 @@
-/* Whether the processor has what x86-64-v2 names, which the proved code uses: else a call of it would end the program by a signal. */
+/* Whether the processor has the features of x86-64-v2, which the proved code uses. Without them a call of that code would raise SIGILL. */
 #ifndef DERRIMAS_PROCESSOR_H
 #define DERRIMAS_PROCESSOR_H
 
 #include <cpuid.h>
 #include <stdbool.h>
 
-/* Whether the leaf's ecx has these bits. */
+/* Whether these bits are set in ecx of the leaf. */
 static bool has_bits(unsigned leaf, unsigned wanted)
 {
     unsigned eax, ebx, ecx, edx;
@@ -14,7 +14,7 @@ static bool has_bits(unsigned leaf, unsigned wanted)
 }
 
 enum { NOT_SEEN, IS_RIGHT, IS_OLD };
-static int seen = NOT_SEEN; /* asking again may take microseconds in a virtual machine */
+static int seen = NOT_SEEN; /* repeating cpuid may take microseconds in a virtual machine */
 
 static bool is_right_processor(void)
 {

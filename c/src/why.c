@@ -1,5 +1,5 @@
-/* derrimas_finalizers_why and derrimas_finalizers_stuck: they list the host's objects, words and roots for a copy, by which the proved part answers. Nothing here
- * is proved; c/tests runs each line of it.
+/* derrimas_finalizers_why and derrimas_finalizers_stuck. They copy the host's objects, words and roots, and the proved part computes its result from the copy.
+ * Nothing here is proved; c/tests runs each line of it.
  */
 #include "finalizers_exports.h"
 
@@ -7,7 +7,7 @@ typedef derrimas_finalizers_code code;
 
 enum { PART = 64 };
 
-/* A walk over the host's heap: the copy so far, and the objects that are still to be listed. */
+/* A walk over the host's heap: the copy so far, and the objects that are not yet listed. */
 typedef struct walk {
     derrimas_finalizers *finalizers;
     const derrimas_paths *paths;
@@ -17,9 +17,9 @@ typedef struct walk {
     size_t count, room;
 } walk;
 
-/* ---- memory, which is the handle's allocator's */
+/* ---- memory, by the handle's allocator */
 
-/* The call of an export that may take memory, or free it. */
+/* Calls an export that may take or free memory. */
 #define BY_ALLOCATOR(it, call) (rattle_memory_by(&(it)->finalizers->allocator), after_call((uint8_t)(call)))
 
 static code after_call(uint8_t returned)
@@ -43,7 +43,7 @@ static code make_room(walk *it)
 
 /* ---- objects and their words */
 
-/* Lists an object later, unless it was. 0 is none. */
+/* Adds an object to the worklist unless it was added before. 0 is no object. */
 static code list_later(walk *it, uint64_t object)
 {
     uint64_t holder;
@@ -56,7 +56,8 @@ static code list_later(walk *it, uint64_t object)
     return DERRIMAS_FINALIZERS_OK;
 }
 
-/* The n-th word of an object. Its number matters only where a short link or an ephemeron has it. The object doesn't point by the word of an ephemeron. */
+/* Reads the n-th word of an object. The number of the word matters only if a short link or an ephemeron has the word. The word of an ephemeron is no edge of
+ * its object. */
 static code list_word(walk *it, uint64_t object, uint64_t n, uint64_t word, uint64_t child)
 {
     uint64_t target;
@@ -85,7 +86,7 @@ static code list_words(walk *it, uint64_t object)
     return n == 0 ? list_word(it, object, 0, 0, 0) : DERRIMAS_FINALIZERS_OK;
 }
 
-/* Lists all objects that are to be listed, and those to which their words point. */
+/* Lists all objects of the worklist, and all objects that they reach. */
 static code list_all(walk *it)
 {
     code listed = DERRIMAS_FINALIZERS_OK;
@@ -118,7 +119,7 @@ static code list_roots(walk *it)
     return listed;
 }
 
-/* An object, and client data if the host says that it is one. */
+/* An object, and client data if the host reports it as an object. */
 static code list_with_data(walk *it, uint64_t object, uint64_t cd)
 {
     code listed = list_later(it, object);
@@ -193,14 +194,14 @@ static code list_heap(walk *it)
     return listed;
 }
 
-/* ---- the answers */
+/* ---- the results */
 
-/* What is asked by a copy, and where the answer goes: why an object isn't finalized, or, if `why` is NULL, which objects wait for a ring. */
+/* A query on a copy, and where its result is stored: why an object isn't finalized, or, if `why` is NULL, which objects wait for a ring. */
 typedef struct question {
     uint64_t object;
     derrimas_why *why;
     size_t *count;
-    uint64_t *objects; /* of the path, or those that wait */
+    uint64_t *objects; /* of the path, or of the objects that wait */
     size_t room;
 } question;
 
@@ -238,7 +239,7 @@ static code by_copy(walk *it, const question *asked)
 {
     derrimas_finalizers *finalizers = it->finalizers;
     derrimas_finalizers_old unwanted;
-    code answered = (code)fz_machine_unregister(finalizers, 0, &unwanted); /* no object is 0: it is only refused, where the handle or a pass is open */
+    code answered = (code)fz_machine_unregister(finalizers, 0, &unwanted); /* 0 is no object: changes nothing, fails if the handle isn't open or a pass is */
 
     if (answered == DERRIMAS_FINALIZERS_OK)
         answered = BY_ALLOCATOR(it, fz_snapshot_open(&it->copy));

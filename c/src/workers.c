@@ -1,7 +1,7 @@
 /* derrimas_workers.h, over the calls of derrimas_finalizers.h and the line of derrimas.h. Nothing here is proved; c/tests runs each line of it.
  *
- * An entry goes on the line with a number of this crew's own as its place, and its place in the finalizers' queue in the field for a birth: so a host may take
- * entries itself too. What changes under the host's lock: the line's end, and the entry that is kept. `bell` guards sleeping alone. */
+ * An entry on the line has the crew's own number as its place. Its place in the finalizers' queue is stored in the field for a birth. So the host may take
+ * entries itself too. The host's lock guards the end of the line and the kept entry. `bell` guards only sleeping. */
 #define _POSIX_C_SOURCE 200809L
 #include "derrimas_workers.h"
 #include "derrimas.h"
@@ -14,7 +14,7 @@
 
 typedef derrimas_finalizers_code code;
 
-enum { YIELDS = 64, NAP = 50 }; /* how often a worker looks before it sleeps; the most milliseconds of a sleep */
+enum { YIELDS = 64, NAP = 50 }; /* polls before a worker sleeps; the longest sleep in milliseconds */
 
 typedef struct worker {
     struct crew *crew;
@@ -37,7 +37,7 @@ typedef struct crew {
     bool stops;
 } crew;
 
-/* The crew whose worker this thread is. */
+/* The crew of this worker thread. */
 static __thread const crew *serves __attribute__((tls_model("initial-exec")));
 
 static uint64_t load(const uint64_t *from) { return __atomic_load_n(from, __ATOMIC_SEQ_CST); }
@@ -46,7 +46,8 @@ static bool has_stop(const crew *it) { return __atomic_load_n(&it->stops, __ATOM
 static void enter(const crew *it) { it->own.enter(it->own.data); }
 static void leave(const crew *it) { it->own.leave(it->own.data); }
 
-/* Whether an entry is published and neither finished nor abandoned. What was published is read last: else a later entry could stand in for a pending one. */
+/* Whether an entry is published and neither finished nor abandoned. `published` is read last: otherwise a later entry could be counted in place of a pending
+ * one. */
 static bool is_pending(const crew *it)
 {
     const uint64_t finished = load(&it->finished);
@@ -57,7 +58,7 @@ static bool is_pending(const crew *it)
 
 /* ---- time */
 
-/* So many milliseconds from now. */
+/* The time so many milliseconds from now. */
 static struct timespec after(uint64_t milliseconds)
 {
     struct timespec at;
@@ -77,7 +78,7 @@ static bool is_before(const struct timespec *one, const struct timespec *other)
     return one->tv_sec < other->tv_sec || (one->tv_sec == other->tv_sec && one->tv_nsec < other->tv_nsec);
 }
 
-/* A limit of so many milliseconds from now: UINT64_MAX is none, and what is longer than a century counts as one. */
+/* The deadline so many milliseconds from now. UINT64_MAX is no deadline; anything longer than a century counts as one. */
 static struct timespec limit_of(uint64_t milliseconds)
 {
     const uint64_t century = UINT64_C(100) * 366 * 24 * 3600 * 1000;
@@ -112,7 +113,7 @@ static void ring(crew *it)
     pthread_mutex_unlock(&it->bell);
 }
 
-/* Publishes the entry that is kept. */
+/* Publishes the kept entry. */
 static bool sent(crew *it)
 {
     if (derrimas_line_publish(&it->line, &it->kept) != DERRIMAS_OK) {
@@ -124,7 +125,7 @@ static bool sent(crew *it)
     return true;
 }
 
-/* Publishes the entry that is kept, and all that wait. */
+/* Publishes the kept entry and all that are waiting. */
 static code send_all(crew *it)
 {
     derrimas_finalizers_entry entry;
@@ -150,9 +151,9 @@ code derrimas_workers_publish(derrimas_workers *workers)
     return it && !has_stop(it) ? send_all(it) : DERRIMAS_FINALIZERS_NOT_OPEN;
 }
 
-/* ---- a worker's life */
+/* ---- the loop of a worker */
 
-/* One more is finished or abandoned; where nothing is pending any more, who waits for that is woken. */
+/* Counts one more finished or abandoned entry. If nothing is pending any more, wakes all waiting threads. */
 static void count_one(crew *it, uint64_t *counter)
 {
     add(counter, 1);
@@ -182,7 +183,7 @@ static void run(worker *self, const derrimas_entry *taken)
     const derrimas_finalizers_entry entry = unwrapped(taken);
     code found;
 
-    (void)load(&it->published); /* so what the publisher did before is seen, also by tools that look at atomic operations alone */
+    (void)load(&it->published); /* makes what the publisher did before visible, also to tools that track only atomic operations */
     self->has_entry = true;
     it->own.run(it->own.data, &entry);
     found = finish(it, &entry);
@@ -191,7 +192,7 @@ static void run(worker *self, const derrimas_entry *taken)
     count_one(it, found == DERRIMAS_FINALIZERS_NOT_OPEN ? &it->abandoned : &it->finished); /* the procedure may have finished it */
 }
 
-/* Sleeps until the bell has been rung since it was rung so often. */
+/* Sleeps until the bell rings. `rings` is the count of rings that the caller has seen. */
 static void doze(crew *it, uint64_t rings)
 {
     const struct timespec end = after(NAP);
@@ -202,8 +203,8 @@ static void doze(crew *it, uint64_t rings)
     pthread_mutex_unlock(&it->bell);
 }
 
-/* Runs one entry, or waits a while. Whether the worker goes on: it doesn't once the line was empty after the stop was read. A worker counts itself as a sleeper
- * before it looks at the line for the last time, so it misses no ring. */
+/* Runs one entry, or waits a while. Returns whether the worker goes on: it stops if the line was empty after the stop flag was read. A worker counts itself as
+ * a sleeper before it looks at the line for the last time, so it misses no ring. */
 static bool serve(worker *self, unsigned *idle)
 {
     crew *it = self->crew;
@@ -228,7 +229,7 @@ static bool serve(worker *self, unsigned *idle)
     return found != DERRIMAS_EMPTY || !stops;
 }
 
-/* A worker has ended, or its procedure has ended the thread: then its entry is abandoned. */
+/* Runs when a worker ends, also if the entry's procedure ended the thread. In that case its entry is abandoned. */
 static void end(void *at)
 {
     worker *self = at;
@@ -266,7 +267,7 @@ static bool is_known(const derrimas_workers_options *options)
     return options->size == sizeof *options && options->finalizers && options->enter && options->leave && options->run;
 }
 
-/* Makes the mutex and the conditions. */
+/* Initializes the mutex and the condition variables. */
 static bool has_bell(crew *it)
 {
     pthread_condattr_t monotonic;
@@ -288,7 +289,7 @@ static bool has_bell(crew *it)
     return is_made;
 }
 
-/* Opens the line, and gives each worker its seat. */
+/* Opens the line, and a seat for each worker. */
 static code seat_all(crew *it)
 {
     derrimas_code found = derrimas_line_open(&it->line, it->own.workers, 0);
@@ -302,7 +303,7 @@ static code seat_all(crew *it)
                                              : DERRIMAS_FINALIZERS_NO_MEMORY;
 }
 
-/* Frees all but the threads. */
+/* Frees everything except the threads. */
 static void release(crew *it)
 {
     for (uint64_t n = 0; n < it->own.workers; n++)
@@ -314,7 +315,7 @@ static void release(crew *it)
     free(it);
 }
 
-/* A new crew, whose threads are to be started. */
+/* A new crew without threads. */
 static code make(const derrimas_workers_options *options, crew **made)
 {
     crew *it = calloc(1, sizeof *it);
@@ -334,7 +335,7 @@ static code make(const derrimas_workers_options *options, crew **made)
     return found;
 }
 
-/* Starts threads, to which no signal comes, until the system starts no further one. */
+/* Starts threads, in which all signals are blocked, until the system refuses one. */
 static void start_all(crew *it)
 {
     sigset_t all, before;
@@ -381,7 +382,7 @@ code derrimas_workers_start(derrimas_workers *workers, const derrimas_workers_op
 
 /* ---- waiting and stopping */
 
-/* Whether nothing is pending, at the latest after a nap or at the limit. */
+/* Whether nothing is pending. Returns at the latest after a nap or at the deadline. */
 static bool is_quiet(crew *it, const struct timespec *limit)
 {
     struct timespec end = after(NAP);
@@ -423,7 +424,7 @@ code derrimas_workers_wait(derrimas_workers *workers, uint64_t milliseconds)
     return DERRIMAS_FINALIZERS_PENDING;
 }
 
-/* Whether all workers have ended, at the latest at the limit. */
+/* Whether all workers have ended. Returns at the latest at the deadline. */
 static bool have_ended(crew *it, const struct timespec *limit)
 {
     int over = 0;
@@ -439,7 +440,7 @@ static bool have_ended(crew *it, const struct timespec *limit)
     return is_right;
 }
 
-/* Abandons what no worker has taken: where procedures ended all threads, and where memory lacked. */
+/* Abandons the entries that no worker has taken, if procedures ended all threads or memory ran out. */
 static void abandon_rest(crew *it)
 {
     derrimas_seat *seat = &it->workers[0].seat;
@@ -470,7 +471,7 @@ code derrimas_workers_stop(derrimas_workers *workers, uint64_t milliseconds, der
         return DERRIMAS_FINALIZERS_NOT_OPEN;
     if (serves == it)
         return DERRIMAS_FINALIZERS_IN_PROCEDURE;
-    enter(it); /* what is published is on the line before the stop */
+    enter(it); /* entries published earlier are on the line before the stop flag is set */
     __atomic_store_n(&it->stops, true, __ATOMIC_SEQ_CST);
     leave(it);
     if (!have_ended(it, &limit))

@@ -1,10 +1,10 @@
-/* The procedures that C has for Lisp, and the table of open files. */
+/* The built-in procedures, which are written in C, and the table of open files. */
 #include "lisp.h"
 #include <string.h>
 
 enum { ANY_NUMBER = 100, MOST_FILES = 16, MOST_STEPS = 64 };
 
-/* ---- files: a port has a place in this table, and its file is closed once, by hand or by the port's cleanup */
+/* ---- files: each port has a slot in this table. Its file is closed once, by hand or by the port's cleanup */
 
 static struct { FILE *file; uint64_t cleanup; } files[MOST_FILES];
 static uint64_t opened, closed, most_open;
@@ -27,7 +27,7 @@ static uint64_t file_of(value port)
     return (uint64_t)number(file);
 }
 
-/* If there is no place, a collection may find ports that are gone. */
+/* If the table is full, a collection may find unreachable ports. */
 static value open_port(value arguments)
 {
     char name[MOST_TEXT];
@@ -41,7 +41,7 @@ static value open_port(value arguments)
     while (files[file].file)
         file++;
     value port = make(PORT, 1, (value[]){integer(file)});
-    files[file].cleanup = when_gone(port, CLOSE_FILE, file); /* before the file: where this fails, no open file is left behind */
+    files[file].cleanup = when_gone(port, CLOSE_FILE, file); /* made before the file, so that no open file leaks if this fails */
     files[file].file = fopen(name, "r");
     if (!files[file].file) {
         never_mind(port, files[file].cleanup);
@@ -77,16 +77,16 @@ static value close_port(value arguments)
     return VOID;
 }
 
-/* How many files were opened, how many of them are closed, and how many were open at one time. */
+/* The number of files opened, the number closed, and the most that were open at one time. */
 static value count_files(value arguments)
 {
     (void)arguments;
     return cons(integer(opened), cons(integer(closed), cons(integer(most_open), NIL)));
 }
 
-/* ---- the other builtins: each gets the list of its arguments, which the register ARGS keeps meanwhile */
+/* ---- the other builtins: each gets the list of its arguments, which the register ARGS retains meanwhile */
 
-/* The bits of a number, with which C reckons without overflow. */
+/* The bits of a number. C computes with them without overflow. */
 static uint64_t bits(value v)
 {
     if (!is_integer(v))
@@ -143,7 +143,7 @@ static value print(value list)
     return VOID;
 }
 
-/* In a world a port has a finalizer already, which closes its file. */
+/* In a world a port already has a finalizer, which closes its file. */
 static value finalize_by(const char *name, value object, value by)
 {
     if (!is_object(object) || type_of(object) == PORT)
@@ -154,7 +154,8 @@ static value finalize_by(const char *name, value object, value by)
 
 static value call_on_collect(value list) { return finalize_by("on-collect", car(list), second(list)); }
 
-/* (guardian object): it has the object once nothing else leads to it. (guardian): the first that it has, and has no more then, or #f. */
+/* (guardian object): registers the object with the guardian, which gets it once it is otherwise unreachable. (guardian): removes and returns the first object
+ * that the guardian has got, or returns #f. */
 value call_guardian(value guardian, value arguments)
 {
     value first = first_guarded(guardian);
@@ -169,9 +170,9 @@ value call_guardian(value guardian, value arguments)
     return field(first, FINALIZER, 2);
 }
 
-/* ---- weak tables: a list of rows. A collection by which a key goes clears both words of its row. */
+/* ---- weak tables: a list of rows. The collection that reclaims a key clears both words of its row. */
 
-/* The rest of a list of rows, from the first one on whose key isn't gone. */
+/* The rest of a list of rows, starting with the first one whose key is alive. */
 static value without_lost(value rows)
 {
     while (rows != NIL && field(car(rows), ROW, 1) == NOTHING)
@@ -179,7 +180,7 @@ static value without_lost(value rows)
     return rows;
 }
 
-/* Drops the rows whose keys are gone, and returns how many are left. */
+/* Drops the rows whose keys were reclaimed, and returns the number of the others. */
 static uint64_t drop_lost(value table)
 {
     value rows = set_field(table, TABLE, 1, without_lost(field(table, TABLE, 1)));
@@ -190,7 +191,7 @@ static uint64_t drop_lost(value table)
     return count;
 }
 
-/* The row of a key, or NIL. */
+/* The row of a key, or NIL if there is none. */
 static value row_of(value table, value key)
 {
     value rows = field(table, TABLE, 1);
@@ -224,9 +225,9 @@ static value set_row(value list)
     return third(list);
 }
 
-/* ---- what keeps an object */
+/* ---- what retains an object */
 
-/* A step of a path, as a program may see it: of a variable its name, of the stack `stack`, of what C alone knows NOTHING. */
+/* A step of a path, as a program sees it: the name of a variable, `stack` for the stack, NOTHING for an object that only C knows. */
 static value seen_step(const value *path, uint64_t n)
 {
     const enum type type = type_of(path[n]);
@@ -238,9 +239,9 @@ static value seen_step(const value *path, uint64_t n)
     return type == PART ? intern("stack") : type == GLOBAL || type == FINALIZER ? NOTHING : path[n];
 }
 
-/* (why weak): the steps by which a variable, the stack or a finalizer leads to the object of a weak box or a weak pair, which is the last
- * of them, also by a row of a weak table whose key is kept; () if nothing leads to it, so that the next collection finds it lost; #f if no
- * object is in it. The list keeps the object. */
+/* (why weak): returns the path from a variable, the stack or a finalizer to the object of a weak box or a weak pair. The object is the last step. The path may
+ * go through a row of a weak table whose key is retained. Returns () if the object is unreachable, so that the next collection reclaims it, and #f if the box
+ * or pair has no object. The returned list retains the object. */
 static value why(value list)
 {
     value weak = car(list), path[MOST_STEPS], steps = NIL;
@@ -252,7 +253,7 @@ static value why(value list)
     for (uint64_t n = length < MOST_STEPS ? length : MOST_STEPS; n-- > 0;) {
         const value step = seen_step(path, n);
 
-        if (step != NOTHING && !(is_symbol(step) && steps != NIL && car(steps) == step)) /* the stack has several parts */
+        if (step != NOTHING && !(is_symbol(step) && steps != NIL && car(steps) == step)) /* the stack consists of several parts */
             steps = cons(step, steps);
     }
     return steps;

@@ -1,16 +1,15 @@
-/* The evaluator: a machine without recursion. Its registers are the heap's, so that a collection finds all that it
- * works with. What it has to come back to stands on the stack, which is in the heap, so that Lisp recurs as
- * deep as the heap has room; a call in the last place takes no stack. */
+/* The evaluator: an abstract machine without recursion. Its registers are in the heap, so a collection sees everything that it uses. Its continuations are on
+ * the stack, which is in the heap too, so recursion in Lisp is limited only by the size of the heap. A tail call takes no stack. */
 #include "heap.h"
 #include <setjmp.h>
 #include <stdlib.h>
 #include <string.h>
 
-/* What the machine does next: evaluate EXPR in ENV, where ARGS is NIL; give VAL to what waits for it; apply
- * the last of ARGS to those before; read the next expression. */
+/* What the machine does next: evaluate EXPR in ENV, with ARGS empty; return VAL to the continuation on the stack; apply the last of ARGS to the ones before;
+ * read the next expression. */
 static enum { EVALUATE, GIVE, APPLY, READ } state = READ;
 
-/* What is done with a value when it is there. No value of Lisp is the same. */
+/* What a continuation does with its value. No value of Lisp equals one of these. */
 enum { THEN_READ = FIRST_ADDRESS / 2, THEN_IF, THEN_SEQUENCE, THEN_ASSIGN,
        THEN_ARGUMENT, THEN_TRIED, THEN_HANDLE, THEN_FINALIZED };
 
@@ -30,7 +29,7 @@ static void evaluate(value expression)
     state = EVALUATE;
 }
 
-/* Leaves on the stack what is to be done with the next value: with what, and in which environment. */
+/* Pushes a continuation: what to do with the next value, the expression kept for it, and the environment. */
 static void wait(value then, value kept)
 {
     push(kept);
@@ -52,7 +51,7 @@ static void give(value v)
     state = GIVE;
 }
 
-/* Calls a procedure of one argument. Something else keeps both. */
+/* Calls a procedure with one argument. Something else must retain both. */
 static void call(value procedure, value argument)
 {
     set(ARGS, cons(argument, cons(procedure, NIL)));
@@ -68,9 +67,9 @@ uint64_t length(value list)
     return count;
 }
 
-/* ---- names: in the environment, a list of pairs of lists of names and of their values, or else global */
+/* ---- variables: in the environment, a list of pairs of a list of names and a list of their values, or else global */
 
-/* The pair whose first is the name's value, or NOTHING where it has none. */
+/* The pair whose car is the variable's value, or NOTHING if it has none. */
 static value find(value name)
 {
     for (value env = get(ENV); env != NIL; env = cdr(env)) {
@@ -97,7 +96,7 @@ static value value_of(value name)
     return v;
 }
 
-/* ---- forms: each is given what stands after its name */
+/* ---- special forms: each gets the list behind its name */
 
 static value closure(value code) { return make(CLOSURE, 2, (value[]){code, get(ENV)}); }
 
@@ -105,7 +104,7 @@ static void quote(value rest) { give(car(rest)); }
 static void lambda(value rest) { give(closure(rest)); }
 static void if_form(value rest) { evaluate_and(THEN_IF, cdr(rest), car(rest)); }
 
-/* (try expression procedure): an error in the expression is handed to the procedure, as a string. */
+/* (try expression procedure): an error in the expression is passed to the procedure as a string. */
 static void try(value rest) { evaluate_and(THEN_TRIED, second(rest), car(rest)); }
 
 static void begin(value rest)
@@ -118,8 +117,8 @@ static void begin(value rest)
         evaluate_and(THEN_SEQUENCE, cdr(rest), car(rest));
 }
 
-/* (define name expression), (define (name argument ..) body ..), (set! name expression): the name gets a
- * value where the environment has it, or else a global one. */
+/* (define name expression), (define (name argument ..) body ..), (set! name expression): sets the variable in the environment if it is bound there, or else a
+ * global variable. */
 static void assign_form(value rest)
 {
     bool is_procedure = is_pair(car(rest));
@@ -131,7 +130,7 @@ static void assign_form(value rest)
         evaluate(second(rest));
 }
 
-/* Evaluates the expressions in EXPR one by one, whose values come to ARGS, and then applies. */
+/* Evaluates the expressions in EXPR one after another, collects their values in ARGS, and then applies. */
 static void evaluate_arguments(void)
 {
     value rest = get(EXPR);
@@ -142,7 +141,7 @@ static void evaluate_arguments(void)
         evaluate_and(THEN_ARGUMENT, cdr(rest), car(rest));
 }
 
-/* (let ((name expression) ..) body ..) is ((lambda (name ..) body ..) expression ..), in reversed order. */
+/* (let ((name expression) ..) body ..) is ((lambda (name ..) body ..) expression ..), in reverse order. */
 static void let(value rest)
 {
     set(VAL, NIL);
@@ -162,7 +161,7 @@ static const struct { const char *name; void (*carry_out)(value rest); } forms[F
 
 /* ---- the steps of the machine */
 
-/* Stops what is evaluated, if an object is gone, for the procedure of its finalizer: one at a time. */
+/* Interrupts the evaluation if a finalizer is due, and calls its procedure: only one at a time. */
 static void evaluate_step(void)
 {
     value expr = get(EXPR), ready = finalizing ? NIL : first_guarded(get(READY));
@@ -181,7 +180,7 @@ static void evaluate_step(void)
         evaluate_arguments();
 }
 
-/* What waits for a value gets that in VAL. What was tried, without an error, gives it on. */
+/* Continues with VAL. The continuation of a `try` whose expression had no error returns it unchanged. */
 static void resume(value then)
 {
     set(ENV, pop());
@@ -209,7 +208,7 @@ static void resume(value then)
         set(ARGS, cons(get(VAL), get(ARGS)));
         evaluate_arguments();
         break;
-    case THEN_HANDLE: /* the value is the procedure that handles an error, and what was kept is the error */
+    case THEN_HANDLE: /* the value is the procedure that handles the error, and `kept` is the error */
         call(get(VAL), kept);
         break;
     case THEN_FINALIZED:
@@ -222,7 +221,7 @@ static void resume(value then)
 
 static void give_step(void) { resume(pop()); }
 
-/* Reverses a list in its place. */
+/* Reverses a list in place. */
 static value reversed(value list)
 {
     value done = NIL, rest;
@@ -253,7 +252,7 @@ static void apply_step(void)
     begin(get(EXPR));
 }
 
-/* Drops what waits, down to where an error is wanted: in a `try`, in a finalizer, or at the top. */
+/* Pops continuations up to the one that handles errors: that of a `try`, of a finalizer, or of the top level. */
 static void unwind(void)
 {
     value then;
@@ -261,7 +260,7 @@ static void unwind(void)
     do
         then = pop();
     while (then != THEN_TRIED && then != THEN_FINALIZED && then != THEN_READ);
-    set(VAL, NIL); /* what filled the heap may have been there */
+    set(VAL, NIL); /* VAL may have held what filled the heap */
     if (then != THEN_TRIED)
         printf("error%s: %s\n", then == THEN_FINALIZED ? " in a finalizer" : "", message);
     resume(then);
@@ -298,9 +297,8 @@ static const struct heap *heap_named(const char *name)
     fail("there is no heap ", name);
 }
 
-/* lisp [--heap world|own] FILE [BLOCKS [stress]]: evaluates the expressions of a file, in a heap of so many blocks of
- * 64 words, which is a world where none is named. Under stress it collects before it makes an object, so that a value
- * that nothing keeps is missed. */
+/* lisp [--heap world|own] FILE [BLOCKS [stress]]: evaluates the expressions of a file, in a heap of so many blocks of 64 words. The heap is a world if none is
+ * named. Under stress it collects before each allocation, so that a value that nothing retains is found out. */
 int main(int count, char **words)
 {
     bool is_named = count > 2 && !strcmp(words[1], "--heap");

@@ -1,13 +1,13 @@
-/* Objects of Lisp in a heap, and what becomes of those that nothing leads to. */
+/* Lisp objects in a heap, and the handling of unreachable ones. */
 #include "heap.h"
 #include <string.h>
 
 enum { PART_FIELDS = 63 };
 
 static const struct heap *heap;
-static uint64_t few;      /* a collection that frees no more objects isn't worth another */
-static bool stressed;     /* whether there is a collection before each object */
-static uint64_t used = 1; /* fields of the uppermost part of the stack */
+static uint64_t few;      /* after a collection that frees no more objects than this, another one isn't worthwhile */
+static bool stressed;     /* whether to collect before each allocation */
+static uint64_t used = 1; /* the fields of the topmost part of the stack */
 
 value get(enum reg reg) { return heap->get(reg); }
 void set(enum reg reg, value v) { heap->set(reg, v); }
@@ -30,12 +30,12 @@ value set_field(value object, enum type type, uint64_t number, value v)
     return v;
 }
 
-/* ---- making objects */
+/* ---- allocation */
 
 value make(enum type type, uint64_t count, const value *fields)
 {
     bool is_weak = type == WEAK_BOX || (type == ROW && is_object(fields[0])), is_scanned = type != STRING && !is_weak;
-    uint64_t kept = type == STRING ? 0 : 2; /* fields to be kept: any others are constants or bytes */
+    uint64_t kept = type == STRING ? 0 : 2; /* fields that retain their values: any others are constants or bytes */
     value made;
 
     for (uint64_t n = 0; n < kept && n < count; n++)
@@ -75,7 +75,7 @@ const char *copy_text(value string, char *text)
     return text;
 }
 
-/* The word of a box is a link where the value is an object, so that a collection clears it. */
+/* If the value is an object, the word of a box is a link, so a collection clears it. */
 value make_weak_box(value v, bool is_long)
 {
     value box = make(WEAK_BOX, 1, &v);
@@ -94,7 +94,7 @@ value make_weak_table(void)
     return make(TABLE, 1, (value[]){NIL});
 }
 
-/* The word of a key is a long link, and that of its value an ephemeron of the key: so a collection clears both, or neither. */
+/* The word of a key is a long link, and the word of its value an ephemeron of the key. So a collection clears both or neither. */
 value make_row(value key, value v)
 {
     value row = make(ROW, 2, (value[]){key, v});
@@ -104,7 +104,7 @@ value make_row(value key, value v)
     return row;
 }
 
-/* ---- the stack: objects of a block, each with the one below; a field that isn't in use keeps nothing */
+/* ---- the stack: objects of a block, each of which points to the one below; an unused field retains nothing */
 
 void push(value v)
 {
@@ -126,7 +126,7 @@ value pop(void)
     return v;
 }
 
-/* ---- guardians: each has a list of FINALIZERs whose objects are gone, and which keep these */
+/* ---- guardians: each has a list of FINALIZERs whose objects are unreachable, and which retain these */
 
 value first_guarded(value guardian) { return field(guardian, GUARDIAN, 1); }
 
@@ -152,8 +152,8 @@ void remove_first_guarded(value guardian)
 
 /* ---- collections, finalizers and cleanups */
 
-/* An object is gone, and is 0 of a cleanup: closes its file, or puts its finalizers into their guardians; for procedures of Lisp that
- * is the machine's. A port that is there may be in use again. */
+/* Called when an object is unreachable; it is 0 for a cleanup. Closes its file, or moves its finalizers into their guardians. For procedures of Lisp the
+ * guardian is the machine's. A port that is passed here may be in use again. */
 void finalize(uint64_t procedure, value object, value data)
 {
     if (procedure == CLOSE_FILE) {
@@ -178,9 +178,9 @@ uint64_t collect(void)
     return heap->collect();
 }
 
-/* Has a procedure of Lisp called with the object, or a guardian have it, once nothing else leads to it: in any order, since
- * Lisp's objects lead to each other in rings. The FINALIZER is made now, so that nothing is made for it later. Those of one
- * object are a list, the last first, since a heap has one finalizer of an object. */
+/* Makes a procedure of Lisp be called with the object, or a guardian get it, once it is otherwise unreachable. There is no order, since Lisp objects often form
+ * cycles. The FINALIZER is allocated now, so that nothing is allocated when it is due. The FINALIZERs of an object form a list with the latest first, since a
+ * heap has one finalizer for each object. */
 void on_collect(value object, value by)
 {
     value finalizer = make(FINALIZER, 3, (value[]){by, NOTHING, NIL}), before;
@@ -190,7 +190,7 @@ void on_collect(value object, value by)
     set_field(finalizer, FINALIZER, 3, before);
 }
 
-/* Has a procedure called with a small number once the object is gone. Returns how never_mind is to name that. */
+/* Makes a procedure be called with a small number after the object has been reclaimed. Returns the number that never_mind takes. */
 uint64_t when_gone(value object, uint64_t procedure, uint64_t number)
 {
     uint64_t cleanup;
@@ -202,7 +202,7 @@ uint64_t when_gone(value object, uint64_t procedure, uint64_t number)
 
 void never_mind(value object, uint64_t cleanup) { heap->never_mind(object, cleanup); }
 
-/* What keeps an object: the first of the objects that lead to it, with the object as the last. */
+/* The path that retains an object: its first objects, with the object as the last. */
 uint64_t path_to(value object, value *path, uint64_t room)
 {
     uint64_t length;
@@ -226,9 +226,9 @@ void open_heap(const struct heap *chosen, uint64_t blocks, bool stress)
     set(GLOBALS, make(GLOBAL, MOST_SYMBOLS, (value[MOST_SYMBOLS]){NOTHING}));
     set(STACK, make(PART, PART_FIELDS, (value[PART_FIELDS]){NIL}));
     set(ENV, NIL);
-    few = blocks; /* a 64th of the heap's words */
+    few = blocks; /* a 64th of the words of the heap */
     stressed = stress;
 }
 
-/* Closes the file of each port that has one, also of those that finalizers of Lisp still lead to, and frees the heap. */
+/* Closes the file of each port that still has one, also of ports that only finalizers of Lisp reach, and frees the heap. */
 void close_heap(void) { heap->close(); }

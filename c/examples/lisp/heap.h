@@ -1,5 +1,5 @@
-/* What Lisp wants of a heap: objects of words, registers that keep what they lead to, links, ephemerons, finalizers and cleanups. world.c
- * has it from a world of derrimas.h, and own.c from the heap of ../own_heap. */
+/* The heap interface of Lisp: objects of words, registers that retain what they point to, links, ephemerons, finalizers and cleanups. world.c implements it
+ * over a world of derrimas.h, and own.c over the heap of ../own_heap. */
 #ifndef HEAP_H
 #define HEAP_H
 
@@ -7,44 +7,43 @@
 
 struct heap {
     const char *name;
-    uint64_t blocks; /* of 64 words: how many it has where nobody says */
+    uint64_t blocks; /* the default number of blocks of 64 words */
 
     bool (*open)(uint64_t blocks);
-    void (*close)(void); /* calls `finalize` for all open files, and frees all */
+    void (*close)(void); /* calls `finalize` for all open files, and frees everything */
 
     value (*get)(enum reg reg);
     void (*set)(enum reg reg, value v);
-    value (*read)(value object, uint64_t offset); /* keeps nothing */
+    value (*read)(value object, uint64_t offset); /* retains nothing */
     void (*write)(value object, uint64_t offset, value v);
-    value (*alloc)(uint64_t words, bool is_scanned); /* 0 where there is no room; the register NEW keeps it */
+    value (*alloc)(uint64_t words, bool is_scanned); /* returns 0 if there is no room; the register NEW retains the object */
 
-    /* A collection that finds that nothing leads to the target writes 0 to the word; if it is long, one by which the target
-     * goes. The object isn't scanned. */
+    /* The first collection that finds the target unreachable writes 0 to the word; of a long link, the collection that reclaims the target. The object isn't
+     * scanned. */
     bool (*link)(value object, uint64_t offset, value target, bool is_long);
 
-    /* Makes the word an ephemeron of the key: it keeps what it leads to as long as something else keeps both the object and the key. A
-     * collection by which the key goes writes 0 to it. The object isn't scanned. NULL in a heap without ephemerons. */
+    /* Makes the word an ephemeron of the key: it retains its value as long as something else retains both the object and the key. The collection that reclaims
+     * the key writes 0 to it. The object isn't scanned. NULL in a heap without ephemerons. */
     bool (*ephemeron)(value object, uint64_t offset, value key);
 
-    /* The first collection that finds that nothing else leads to the object calls `finalize` with it, in any order. The data
-     * takes the place of that of before, which is in *before, or NIL. */
+    /* The first collection that finds the object otherwise unreachable calls `finalize` with it, in any order. The data replaces any earlier data, which is
+     * stored in *before, or NIL. */
     bool (*on_collect)(value object, uint64_t procedure, value data, value *before);
 
-    /* The same without the object, which has no use any more. It is freed by the same collection, if there are cleanups. A heap
-     * may have none: then the object has no other finalizer. */
+    /* The same, but `finalize` doesn't get the object, which is freed by the same collection if the heap has cleanups. In a heap without them, the object must
+     * have no other finalizer. */
     bool (*when_gone)(value object, uint64_t procedure, uint64_t number, uint64_t *cleanup);
     void (*never_mind)(value object, uint64_t cleanup);
-    uint64_t (*collect)(void); /* returns how many objects it freed */
+    uint64_t (*collect)(void); /* returns the number of freed objects */
 
-    /* Puts the first objects of a path into an array of so many places: from one that a register or a finalizer keeps, each leads to
-     * the next one, and the last is the object. The length of the path is 0 where nothing keeps the object. NULL in a heap that
-     * can't tell. */
+    /* Copies the first objects of a path to an array of this size. The first object is retained by a register or a finalizer, each points to the next one, and
+     * the last is the object. The length of the path is 0 if nothing retains the object. NULL in a heap that has no such paths. */
     bool (*why)(value object, value *path, uint64_t room, uint64_t *length);
 };
 
 extern const struct heap over_world, over_own;
 
-/* heap.c's: it makes no object, and no collection. */
+/* defined in heap.c: makes no object, and doesn't collect */
 void finalize(uint64_t procedure, value object, value data);
 
 #endif

@@ -1,15 +1,14 @@
 /* A small Lisp over a heap with finalizers, as a runtime's author would write it.
  *
  *   world.c     the heap: a world of derrimas.h
- *   own.c       another: that of ../own_heap, whose finalizers are those of derrimas_finalizers.h
- *   heap.c      objects, the stack, collections and finalizers, over either: heap.h is what they have in common
- *   text.c      text becomes values, and values become text
- *   eval.c      the evaluator: a machine without recursion, whose registers are the heap's
- *   builtins.c  the procedures that C has for Lisp, and the table of open files
+ *   own.c       another heap: that of ../own_heap, with the finalizers of derrimas_finalizers.h
+ *   heap.c      objects, the stack, collections and finalizers, over either heap: heap.h is their interface
+ *   text.c      the reader and the printer
+ *   eval.c      the evaluator: an abstract machine without recursion, whose registers are in the heap
+ *   builtins.c  the built-in procedures, which are written in C, and the table of open files
  *
- * A collection looks at the registers alone, and not at the stack of C. So a value that C works with is kept by a
- * register, or by the stack of Lisp, while an object is made. What a program lets go of goes at the next
- * collection.
+ * A collection scans the registers only, and not the C stack. So a value that C code uses is retained by a register, or by the Lisp stack, while an object is
+ * allocated. An object that the program drops is reclaimed by the next collection.
  */
 #ifndef LISP_H
 #define LISP_H
@@ -18,42 +17,42 @@
 #include <stdint.h>
 #include <stdio.h>
 
-/* A value is a word. With the highest bit set it is an integer of 63 bits. From FIRST_ADDRESS on it is the address
- * of an object, whose first word is its type. Below that it is a constant, a symbol or a builtin. */
+/* A value is a word. If the highest bit is set it is an integer of 63 bits. Otherwise a value from FIRST_ADDRESS on is the address of an object, whose first
+ * word is its type, and a lower one is a constant, a symbol or a builtin. */
 typedef uint64_t value;
 
 enum { FIRST_ADDRESS = 65536 };
 
 /* The constants, and the types of objects with the fields that follow. */
 enum type {
-    NOTHING, /* what a new word holds: no value of Lisp */
+    NOTHING, /* the initial value of a word: no value of Lisp */
     NIL,
     TRUE,
     FALSE,
     VOID,
     PAIR,      /* first, rest */
     CLOSURE,   /* pair of names and body, environment */
-    STRING,    /* bytes, up to a 0 */
-    PORT,      /* place in the table of files, or FALSE since it was closed */
-    WEAK_BOX,  /* the value, or NOTHING since that is gone */
-    WEAK_PAIR, /* a weak box with the first, rest */
-    GUARDIAN,  /* the first and the last FINALIZER that it has, or NIL */
+    STRING,    /* bytes, terminated by 0 */
+    PORT,      /* index in the table of files, or FALSE after it was closed */
+    WEAK_BOX,  /* the value, or NOTHING after it was reclaimed */
+    WEAK_PAIR, /* a weak box with the car, the cdr */
+    GUARDIAN,  /* its first and its last FINALIZER, or NIL */
     TABLE,     /* of a weak table: a list of ROWs */
-    ROW,       /* a key and its value, or NOTHING since the key is gone */
-    PART,      /* the part of the stack below it, or NIL; values */
-    GLOBAL,    /* for each symbol a pair, whose first is the value where the environment has none */
-    FINALIZER  /* the procedure or the guardian, the object since it is gone, the next one */
+    ROW,       /* a key and its value, or NOTHING after the key was reclaimed */
+    PART,      /* the part of the stack below this one, or NIL; values */
+    GLOBAL,    /* for each symbol a pair, whose car is the global value */
+    FINALIZER  /* the procedure or the guardian, the object once it is unreachable, the next one */
 };
 
-/* Those before PART stand in a table of names, and then the symbols: the forms' first, then the builtins'. A
- * builtin is its symbol and MOST_SYMBOLS. A string has at most MOST_TEXT bytes, with the 0 at its end. */
+/* Values before PART are in a table of names, and then come the symbols: first those of the special forms, then those of the builtins. A builtin is its symbol
+ * plus MOST_SYMBOLS. A string has at most MOST_TEXT bytes, including the 0 at its end. */
 enum { FIRST_SYMBOL = PART, FORMS = 8, MOST_SYMBOLS = 1000, MOST_TEXT = 1024 };
 enum { FIRST_BUILTIN = FIRST_SYMBOL + FORMS + MOST_SYMBOLS };
 
-/* The registers. READY is a guardian whose procedures the machine is to call. Those from NEW on are heap.c's own. */
+/* The registers. READY is a guardian whose procedures the machine has to call. Those from NEW on are private to heap.c. */
 enum reg { EXPR, VAL, ARGS, ENV, STACK, GLOBALS, READY, NEW, FIELDS, REGISTERS = FIELDS + 2 };
 
-/* The procedures of cleanups and finalizers: a file's, by its place in the table, and Lisp's. */
+/* The procedures of cleanups and finalizers: of a file, given by its index in the table, and of Lisp. */
 enum { CLOSE_FILE, CALL_LISP };
 
 /* ---- heap.c */
@@ -61,29 +60,29 @@ enum { CLOSE_FILE, CALL_LISP };
 value get(enum reg reg);
 void set(enum reg reg, value v);
 
-enum type type_of(value v); /* NOTHING if it is no object */
+enum type type_of(value v); /* NOTHING if it isn't an object */
 
-/* A field of an object, counted from 1. It is an error of Lisp if the value isn't of the type. */
+/* A field of an object, counted from 1. It is a Lisp error if the value isn't of this type. */
 value field(value object, enum type type, uint64_t number);
 value set_field(value object, enum type type, uint64_t number, value v); /* returns v */
 
-/* These keep the values that they are given. It is an error of Lisp if memory is short. */
+/* These retain the values that they get. Running out of memory is a Lisp error. */
 value make(enum type type, uint64_t count, const value *fields);
 value make_string(const char *text);
-value make_weak_box(value v, bool is_long); /* long: the value is gone once no finalizer keeps it */
+value make_weak_box(value v, bool is_long); /* long: the value is cleared once no finalizer retains it either */
 value make_guardian(void);
 value make_weak_table(void);
-value make_row(value key, value v); /* in which the key keeps the value; a key that is no object stays */
+value make_row(value key, value v); /* in which the key retains the value; a key that is no object is never cleared */
 const char *copy_text(value string, char *text);
 
 void push(value v);
 value pop(void);
 
-uint64_t collect(void); /* returns how many objects it freed */
+uint64_t collect(void); /* returns the number of freed objects */
 void on_collect(value object, value by);
 uint64_t when_gone(value object, uint64_t procedure, uint64_t number);
 void never_mind(value object, uint64_t cleanup);
-uint64_t path_to(value object, value *path, uint64_t room); /* the length of the path that keeps it, or 0 */
+uint64_t path_to(value object, value *path, uint64_t room); /* the length of the path that retains it, or 0 */
 value first_guarded(value guardian); /* a FINALIZER, or NIL */
 void remove_first_guarded(value guardian);
 
@@ -100,8 +99,8 @@ void print_value(value v, int depth);
 
 /* ---- eval.c */
 
-_Noreturn void fail(const char *what, const char *which); /* an error of Lisp, whose text is both */
-void assign(value name); /* gives the name the value in VAL */
+_Noreturn void fail(const char *what, const char *which); /* raises a Lisp error, whose text is both strings together */
+void assign(value name); /* sets the variable to the value in VAL */
 uint64_t length(value list);
 
 /* ---- builtins.c */

@@ -1,4 +1,4 @@
-/* The heap of Lisp by that of ../own_heap: objects of malloc, and the finalizers of derrimas_finalizers.h. */
+/* The heap of Lisp over ../own_heap: objects from malloc, and the finalizers of derrimas_finalizers.h. */
 #include "../own_heap/own_heap.h"
 #include "heap.h"
 
@@ -52,7 +52,7 @@ static void never_mind_object(value object, uint64_t cleanup)
     (void)derrimas_finalizers_cancel(&heap.finalizers, cleanup, NULL);
 }
 
-/* The library tells of registered objects: another one is registered as long as it is asked about. */
+/* The library explains only registered objects, so any other one is registered during the query. */
 static bool why_object(value object, value *path, uint64_t room, uint64_t *length)
 {
     derrimas_finalizers_registration_at registration;

@@ -1,4 +1,4 @@
-/* Text becomes values, and values become text. */
+/* The reader and the printer. */
 #include "lisp.h"
 #include <ctype.h>
 #include <stdlib.h>
@@ -6,7 +6,7 @@
 
 enum { MOST_NAME = 40, DEEPEST = 200, LONGEST = 1000, MOST_PRINTED = 2000 };
 
-/* The names of constants, types and symbols. A symbol stays for good. */
+/* The names of constants, types and symbols. A symbol is never freed. */
 static char names[MOST_SYMBOLS][MOST_NAME + 1] = {
     "no value", "()", "#t", "#f", "nothing", "a pair", "a procedure", "a string", "a port", "a weak box", "a weak pair", "a guardian", "a weak table", "a row",
 };
@@ -27,7 +27,7 @@ const char *name_of(value v) { return names[v % MOST_SYMBOLS]; }
 
 /* ---- reading */
 
-/* A byte of the program. A 0 would end each text of C, and is an error. */
+/* Reads a byte of the program. A 0 is an error, since it would end a C string. */
 static int read_byte(void)
 {
     int c = getchar();
@@ -37,7 +37,7 @@ static int read_byte(void)
     return c;
 }
 
-/* The next byte that is neither blank nor of a comment. */
+/* The next byte that isn't white space or part of a comment. */
 static int next_byte(void)
 {
     int c;
@@ -60,7 +60,7 @@ static value read_string(void)
     return make_string(text);
 }
 
-/* A number of at most 18 bytes, or else a name. */
+/* Reads a number of at most 18 bytes, or else a name. */
 static value read_word(int c)
 {
     char word[MOST_NAME + 2] = "", *end;
@@ -74,7 +74,7 @@ static value read_word(int c)
     return *end == 0 && strlen(word) <= 18 ? n : intern(word);
 }
 
-/* Reads the value whose first byte is c into a word of a pair, which keeps what is read of it. */
+/* Reads the value whose first byte is c into a word of a pair, which retains the parts read so far. */
 static void read_into(value pair, uint64_t number, int c, int depth)
 {
     if (depth > DEEPEST)
@@ -106,7 +106,7 @@ bool read_value(void)
     return true;
 }
 
-/* ---- printing: of lists in lists, of a long one, and of all together no more than a limit, since each may be a ring */
+/* ---- printing: the depth of nested lists, the length of a list and the total output are limited, since any list may be circular */
 
 static int printed;
 

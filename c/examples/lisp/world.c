@@ -3,7 +3,7 @@
 #include "heap.h"
 #include <stdlib.h>
 
-/* The slots behind the registers: for calls that take words by slots. */
+/* The slots behind the registers, for calls that pass words in slots. */
 enum { HOLDER = REGISTERS, WORD };
 
 _Static_assert(FIRST_ADDRESS == DERRIMAS_HEAP_START && WORD < DERRIMAS_SLOTS, "values and registers are such as a world has");
@@ -12,7 +12,7 @@ static derrimas_world world;
 
 static derrimas_slot at(int slot) { return derrimas_at(0, (uint64_t)slot); }
 
-/* For calls to which this program gives no cause of refusal. */
+/* For calls that this program never makes fail. */
 static void must(derrimas_code code)
 {
     if (code == DERRIMAS_OK)
@@ -71,7 +71,7 @@ static bool on_collect_object(value object, uint64_t procedure, value data, valu
     return is_made;
 }
 
-/* A world has no cleanups: a finalizer keeps the object for one collection more. */
+/* A world has no cleanups. A finalizer is used instead, which retains the object for one more collection. */
 static bool when_object_gone(value object, uint64_t procedure, uint64_t number, uint64_t *cleanup)
 {
     *cleanup = 0;

@@ -36,7 +36,7 @@ uint64_t *own_heap_alloc(own_heap *heap, size_t words, bool is_scanned)
     return it->words;
 }
 
-/* Frees the objects that aren't marked, and takes the marks from the others. */
+/* Frees the unmarked objects, and clears the marks of the others. */
 static size_t sweep(own_heap *heap)
 {
     size_t freed = 0;
@@ -60,7 +60,7 @@ void own_heap_close(own_heap *heap)
     (void)sweep(heap);
 }
 
-/* ---- marks: what is marked for the first time stands in a list until its words were followed, so that no chain is too long */
+/* ---- marking: an object that is marked is put on a list until its words are scanned, so that long chains need no recursion */
 
 static void mark_word(own_heap *heap, uint64_t word)
 {
@@ -76,7 +76,7 @@ static void mark_word(own_heap *heap, uint64_t word)
     heap->to_scan = it;
 }
 
-/* Marks what the words of an object lead to, but for this one. */
+/* Marks the objects to which the words of an object point, except this other one. */
 static void mark_words(own_heap *heap, const object *it, const object *other)
 {
     for (size_t n = 0; it->is_scanned && n < it->count; n++)
@@ -84,7 +84,7 @@ static void mark_words(own_heap *heap, const object *it, const object *other)
             mark_word(heap, it->words[n]);
 }
 
-/* Follows the words of an object that stands in the list. NULL: there is none. */
+/* Scans the next object on the list. NULL: the list is empty. */
 static object *scan_one(own_heap *heap)
 {
     object *it = heap->to_scan;
@@ -142,7 +142,7 @@ static bool holder_is_marked(void *data, uint64_t word)
     return holder_of(word)->is_marked;
 }
 
-/* The word lies in an object that isn't scanned: so nothing else marks its value. What is marked on the way may be a key. */
+/* The word is in an object that isn't scanned, so nothing else marks its value. An object marked on the way may be a key. */
 static bool mark_value(void *data, uint64_t word)
 {
     own_heap *heap = data;
@@ -150,13 +150,13 @@ static bool mark_value(void *data, uint64_t word)
 
     mark_word(heap, holder_of(word)->words[word >> 48]);
     for (object *it; (it = scan_one(heap)); is_new = true)
-        (void)derrimas_finalizers_key_marked(&heap->finalizers, own_heap_number(it->words)); /* can't fail: it is open */
+        (void)derrimas_finalizers_key_marked(&heap->finalizers, own_heap_number(it->words)); /* can't fail: the handle is open */
     return is_new;
 }
 
 /* ---- collections */
 
-/* The finalizers' own roots come in pieces of a buffer. */
+/* The finalizers' own roots, copied in parts to a buffer. */
 static void mark_roots_of_finalizers(own_heap *heap, derrimas_finalizers_root sort)
 {
     uint64_t some[512], from = 0;
@@ -183,7 +183,7 @@ size_t own_heap_collect(own_heap *heap)
 
 /* ---- why an object isn't finalized */
 
-/* By a word of an object that isn't scanned it points only if the word is an ephemeron. */
+/* A word of an object that isn't scanned is an edge only if it is an ephemeron. */
 static bool child_of(void *data, uint64_t what, uint64_t n, uint64_t *word, uint64_t *child)
 {
     const own_heap *heap = data;
