@@ -1,4 +1,4 @@
-/* What the tests of derrimas.h share: a check that counts, and tells what was found in the place of what. */
+/* Shared by the tests of derrimas.h: checks that are counted, and that report the value found and the value expected. */
 #ifndef CHECK_H
 #define CHECK_H
 
@@ -17,14 +17,14 @@ static inline void check(int line, const char *what, uint64_t found, uint64_t wa
     printf("line %d: %s is %llu, not %llu\n", line, what, (unsigned long long)found, (unsigned long long)wanted);
 }
 
-/* The last line of a test, and its status. */
+/* Prints the last line of a test, and returns its exit status. */
 static inline int told(void)
 {
     printf("%u checks, %u failed\n", checks, failures);
     return failures != 0;
 }
 
-/* Whether all bytes are 1: so fills REFUSED a place for a result. A bool of this byte is true. */
+/* Whether all bytes are 1: REFUSED fills the place for a result with them. A bool with this byte is true. */
 static inline bool is_filled(const void *at, size_t size)
 {
     const unsigned char *bytes = at;
@@ -38,7 +38,7 @@ static inline bool is_filled(const void *at, size_t size)
 #define IS(found, wanted) check(__LINE__, #found, (uint64_t)(found), (uint64_t)(wanted))
 #define OK(call) IS(call, DERRIMAS_OK)
 
-/* The call is refused with this code, and leaves the place for its result as it was. */
+/* The call is refused with this code, and leaves the place for its result unchanged. */
 #define REFUSED(code, place, call)                                                                                     \
     do {                                                                                                               \
         memset(&(place), 1, sizeof(place));                                                                            \

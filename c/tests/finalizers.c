@@ -1,5 +1,5 @@
-/* Every call of derrimas_finalizers.h: each answer, each place that may be NULL, and each place that a refusal leaves as it was. All that doesn't look at single
- * questions about objects and words is tried with the options `marks` and `live` too.
+/* Every call of derrimas_finalizers.h: each return value, each place that may be NULL, and each place that a refusal leaves unchanged. Everything that doesn't
+ * depend on single questions about objects and words is also tested with the options `marks` and `live`.
  */
 #include "finalizers_host.h"
 #include <stddef.h>
@@ -17,7 +17,7 @@ static void registers(const object *it, derrimas_finalizers_kind kind, uint64_t 
     OK(derrimas_finalizers_register(&finalizers, number_of(it), kind, proc, proc + 1, rank, NULL, NULL));
 }
 
-/* Writes the target into the word of the object, and makes the link. */
+/* Writes the target to the word of the object, and makes the link. */
 static void links(derrimas_finalizers_link_kind kind, object *it, size_t word, const object *target)
 {
     it->words[word] = number_of(target);
@@ -50,7 +50,7 @@ static derrimas_finalizers_counts counted(void)
     return counts;
 }
 
-/* Takes and finishes all entries, whose procedures are these in their order; 0 ends them. */
+/* Takes and finishes all entries. Their procedures must be these, in this order; 0 ends the list. */
 static void runs(const uint64_t *procs)
 {
     derrimas_finalizers_entry entry;
@@ -69,7 +69,7 @@ static void runs(const uint64_t *procs)
 
 #define RUNS(...) runs((const uint64_t[]){__VA_ARGS__, 0})
 
-/* Reads all roots of a sort in parts of so many words, and tells how many there are. The place goes on with each part, by a word or more. */
+/* Reads all roots of a sort in parts of so many words, and returns their number. `from` grows with each part, by one word or more. */
 static uint64_t rooted(derrimas_finalizers_root sort, size_t room, uint64_t *words)
 {
     uint64_t from = 0, before = 0, all = 0;
@@ -93,7 +93,7 @@ static int by_number(const void *a, const void *b)
     return (*x > *y) - (*x < *y);
 }
 
-/* There are so many roots of a sort, no two of them the same, and parts of whatever size are one walk. Tells their sum. */
+/* There are so many roots of a sort, all different, and the walk finds the same ones with parts of any size. Returns their sum. */
 static uint64_t walked(derrimas_finalizers_root sort, uint64_t wanted)
 {
     static const size_t rooms[] = {1, 7, 511, 512, 513, 1024};
@@ -115,7 +115,7 @@ static uint64_t walked(derrimas_finalizers_root sort, uint64_t wanted)
 
 /* ---- refusals */
 
-/* All changes but .._open and .._next are refused with this code, and leave their places as they were. */
+/* All changes except .._open and .._next are refused with this code, and leave their places unchanged. */
 static void changes_are_refused(derrimas_finalizers_code code)
 {
     derrimas_finalizers_old old;
@@ -159,7 +159,7 @@ static void takes_are_refused(derrimas_finalizers_code code)
     REFUSED(code, entry, derrimas_finalizers_take_finished(&finalizers, &entry));
 }
 
-/* A kind that is none comes before all other causes. */
+/* An invalid kind is reported before all other causes. */
 static void kinds_are_refused(void)
 {
     derrimas_finalizers_linked answer;
@@ -188,7 +188,7 @@ static void *allocates(void *data, size_t size) { return size ? data : NULL; }
 static void *reallocates(void *data, void *memory, size_t size) { return memory && size ? data : NULL; }
 static void releases(void *data, void *memory) { (void)(data && memory); }
 
-/* Options of an unknown size, or whose allocator lacks a function, come before all other causes, and are no further read. */
+/* Options of an unknown size, or whose allocator lacks a function, are reported before all other causes, and nothing more of them is read. */
 static void options_are_refused(void)
 {
     const derrimas_finalizers before = finalizers;
@@ -211,7 +211,7 @@ static void options_are_refused(void)
         IS(derrimas_finalizers_open(&finalizers, (const derrimas_finalizers_options *)(const void *)&sizes[n]), DERRIMAS_FINALIZERS_BAD_OPTIONS);
     }
     for (options.size = sizeof options; options.size; options.size = options.size > without_marks ? without_marks : 0) {
-        /* its memory is refused; but an open handle is so first */
+        /* its memory is refused; but an open handle is refused before that */
         IS(derrimas_finalizers_open(&finalizers, &options), before.inside ? DERRIMAS_FINALIZERS_IS_OPEN : DERRIMAS_FINALIZERS_NO_MEMORY);
         IS(memcmp(&finalizers, &before, sizeof before), 0);
     }
@@ -380,7 +380,7 @@ static void moving(derrimas_finalizers_link_kind kind)
 
 /* ---- cleanups */
 
-/* Adds a cleanup whose client data is 1 more than its procedure, and returns its number. */
+/* Adds a cleanup whose client data is its procedure plus 1, and returns its number. */
 static uint64_t adds(const object *it, derrimas_finalizers_when when, uint64_t proc, uint8_t rank)
 {
     uint64_t number = UINT64_MAX;
@@ -398,7 +398,7 @@ static bool is_cleanup(uint64_t number, uint64_t object, derrimas_finalizers_whe
     return it.number == number && it.object == object && it.when == when && it.proc == proc && it.cd == cd && it.rank == rank;
 }
 
-/* Several of an object, and numbers that no registration has; all are what they were added as. */
+/* An object may have several. Their numbers differ from those of registrations, and all fields are as they were added. */
 static void adding(void)
 {
     static const uint64_t values[] = {0, 1, UINT64_C(1) << 47, UINT64_C(1) << 63, UINT64_MAX};
@@ -440,7 +440,7 @@ static void cancelling(void)
     OK(derrimas_finalizers_cancel(&finalizers, number[1], &old));
     IS(old.was && old.proc == 10 && old.cd == 11, true);
     REFUSED(DERRIMAS_FINALIZERS_EMPTY, cleanup, derrimas_finalizers_cleanup(&finalizers, number[1], &cleanup));
-    for (unsigned n = 0; n < 4; n++) { /* cancelled already; a registration's; never given; a large one */
+    for (unsigned n = 0; n < 4; n++) { /* cancelled already; of a registration; never used; a large one */
         OK(derrimas_finalizers_cancel(&finalizers, n == 0 ? number[1] : n == 1 ? registered : n == 2 ? registered + 1 : UINT64_MAX, &old));
         IS(old.was || old.proc || old.cd, false);
     }
@@ -450,13 +450,13 @@ static void cancelling(void)
     IS(collect(&all, &finalizers).picked, 1);
     RUNS(50);
     IS(collect(&all, &finalizers).picked, 1);
-    OK(derrimas_finalizers_cancel(&finalizers, number[2], &old)); /* it is queued */
+    OK(derrimas_finalizers_cancel(&finalizers, number[2], &old)); /* already queued */
     IS(old.was, false);
     RUNS(20);
     closes();
 }
 
-/* The short ones, the finalizers, the long ones; each by rank, then number. Where no finalizer retains an object, all of its cleanups come in one pass. */
+/* The short ones, the finalizers, the long ones; each by rank, then number. If no finalizer retains an object, all of its cleanups are queued in one pass. */
 static void order_of_cleanups(void)
 {
     opens();
@@ -482,7 +482,7 @@ static void order_of_cleanups(void)
     closes();
 }
 
-/* An entry of a cleanup has its number and no object. Its data is a root until it is finished; its object isn't one. */
+/* The entry of a cleanup has its number and no object. Its data is a root until it is finished; its object isn't. */
 static void entries_of_cleanups(void)
 {
     derrimas_finalizers_entry entry;
@@ -507,17 +507,17 @@ static void entries_of_cleanups(void)
     closes();
 }
 
-/* A ring and a chain hold no cleanup back; data that leads to the object does. */
+/* A cycle or a chain doesn't delay a cleanup; data that reaches the object does. */
 static void lost(void)
 {
     uint64_t number;
 
     opens();
     for (size_t n = 1; n <= 4; n++) {
-        objects[n].words[0] = number_of(&objects[n == 2 ? 1 : n == 4 ? 3 : n + 1]); /* 1 and 2 are a ring, and so are 3 and 4 */
+        objects[n].words[0] = number_of(&objects[n == 2 ? 1 : n == 4 ? 3 : n + 1]); /* 1 and 2 are a cycle, and so are 3 and 4 */
         (void)adds(&objects[n], n % 2 ? DERRIMAS_FINALIZERS_SHORT : DERRIMAS_FINALIZERS_LONG, 10 * n, 0);
     }
-    registers(&objects[3], DERRIMAS_FINALIZERS_NORMAL, 35, 0); /* never picked, on a ring; so it retains 4 */
+    registers(&objects[3], DERRIMAS_FINALIZERS_NORMAL, 35, 0); /* never queued, since it is on a cycle; so it retains 4 */
     OK(derrimas_finalizers_add_cleanup(&finalizers, number_of(&objects[5]), DERRIMAS_FINALIZERS_LONG, 50, number_of(&objects[5]), 0, &number));
     IS(collect(&all, &finalizers).picked, 3);
     RUNS(10, 30, 20);
@@ -530,7 +530,8 @@ static void lost(void)
     closes();
 }
 
-/* A pass leaves no cleanup to a new object at the place of one that it left unmarked. Of one that is freed at another time they are cancelled. */
+/* After a pass no cleanup of an unmarked object is left that a new object at the same address could get. If an object is freed at another time, its cleanups
+ * are cancelled. */
 static void same_number(void)
 {
     uint64_t number;
@@ -539,11 +540,11 @@ static void same_number(void)
     (void)adds(&objects[1], DERRIMAS_FINALIZERS_SHORT, 10, 0);
     (void)adds(&objects[1], DERRIMAS_FINALIZERS_LONG, 20, 0);
     IS(collect(&all, &finalizers).picked, 2);
-    objects[1].is_root = true; /* a new one */
+    objects[1].is_root = true; /* a new object */
     RUNS(10, 20);
     number = adds(&objects[1], DERRIMAS_FINALIZERS_LONG, 30, 0);
     objects[1].is_root = false;
-    OK(derrimas_finalizers_cancel(&finalizers, number, NULL)); /* it is freed now, and another comes */
+    OK(derrimas_finalizers_cancel(&finalizers, number, NULL)); /* freed now, and another one is allocated */
     IS(collect(&all, &finalizers).picked, 0);
     (void)adds(&objects[1], DERRIMAS_FINALIZERS_LONG, 40, 0);
     IS(collect(&all, &finalizers).picked, 1);
@@ -551,7 +552,7 @@ static void same_number(void)
     closes();
 }
 
-/* All cleanups, in use or not: the short ones, then the long ones. Finalizers and links stay, as cleanups do where all finalizers are queued. */
+/* All cleanups, of reachable objects too: the short ones, then the long ones. Finalizers and links stay, and cleanups stay when all finalizers are queued. */
 static void all_cleanups(void)
 {
     derrimas_finalizers_entry entry;
@@ -581,7 +582,7 @@ static void all_cleanups(void)
     closes();
 }
 
-/* A pass asks only whether objects are marked for cleanups, 64 at a time. What it didn't queue when it is abandoned comes in the next one. */
+/* For cleanups a pass only asks whether objects are marked, 64 at a time. What an abandoned pass didn't queue is queued by the next one. */
 static void questions_of_cleanups(void)
 {
     derrimas_question question;
@@ -610,7 +611,7 @@ static void questions_of_cleanups(void)
 
 /* ---- passes */
 
-/* By rank, then object, of the kinds but UNREACHABLE; and then those. */
+/* By rank, then object, for all kinds but UNREACHABLE; and then those. */
 static void order(void)
 {
     opens();
@@ -630,7 +631,7 @@ static void order(void)
     closes();
 }
 
-/* What an object leads to comes after it, whose own words count for NORMAL alone. */
+/* An object comes before what it reaches. Its own words count only for NORMAL. */
 static void kinds(void)
 {
     opens();
@@ -647,7 +648,7 @@ static void kinds(void)
     RUNS(1, 31);
     registers(&objects[5], DERRIMAS_FINALIZERS_NORMAL, 51, 0);
     registers(&objects[6], DERRIMAS_FINALIZERS_NORMAL, 61, 0);
-    objects[6].words[1] = number_of(&objects[5]); /* 6 comes before 5 */
+    objects[6].words[1] = number_of(&objects[5]); /* 6 is queued before 5 */
     IS(collect(&all, &finalizers).picked, 1);
     RUNS(61);
     IS(collect(&all, &finalizers).picked, 1);
@@ -657,22 +658,22 @@ static void kinds(void)
     closes();
 }
 
-/* A short link is cleared once its target is unreachable; a long one once nothing keeps the target; a link in a lost object goes. */
+/* A short link is cleared once its target is unreachable, and a long one once nothing retains the target; a link in a lost object is removed. */
 static void weak(void)
 {
     opens();
     objects[0].is_root = objects[9].is_root = true;
-    links(DERRIMAS_FINALIZERS_SHORT, &objects[10], 0, &objects[1]); /* 10 is lost */
+    links(DERRIMAS_FINALIZERS_SHORT, &objects[10], 0, &objects[1]); /* 10 is unreachable */
     links(DERRIMAS_FINALIZERS_LONG, &objects[10], 1, &objects[1]);
-    links(DERRIMAS_FINALIZERS_SHORT, &objects[0], 0, &objects[0]); /* to what is reachable */
+    links(DERRIMAS_FINALIZERS_SHORT, &objects[0], 0, &objects[0]); /* to something reachable */
     objects[0].words[1] = objects[0].words[2] = 0;
     OK(derrimas_finalizers_link(&finalizers, DERRIMAS_FINALIZERS_SHORT, word_of(&objects[0], 1), number_of(&objects[1]), NULL));
     OK(derrimas_finalizers_link(&finalizers, DERRIMAS_FINALIZERS_LONG, word_of(&objects[0], 2), number_of(&objects[1]), NULL));
     objects[0].words[3] = number_of(&objects[1]);
     registers(&objects[1], DERRIMAS_FINALIZERS_NORMAL, 1, 0);
     (void)collect(&all, &finalizers);
-    IS(counted().short_links == 2 && counted().long_links == 1, true); /* of the lost object none is left */
-    objects[0].words[1] = objects[0].words[2] = 5;                      /* numbers that lead nowhere */
+    IS(counted().short_links == 2 && counted().long_links == 1, true); /* no link of the lost object is left */
+    objects[0].words[1] = objects[0].words[2] = 5;                      /* numbers of no object */
     objects[0].words[3] = 0;
     IS(collect(&all, &finalizers).picked, 1);
     IS(objects[0].words[1] == 0 && objects[0].words[2] == 5, true);
@@ -686,7 +687,7 @@ static void weak(void)
     closes();
 }
 
-/* A worker between two questions: it finishes the entry that it has, and takes the next one, each third time as finished. */
+/* A worker between two questions: it finishes the entry that it has, and takes the next one; each third one is finished as it is taken. */
 static void works(derrimas_finalizers_entry *has)
 {
     const derrimas_finalizers_counts counts = counted();
@@ -704,7 +705,7 @@ static void works(derrimas_finalizers_entry *has)
     walked(DERRIMAS_FINALIZERS_HELD_OBJECTS, counts.waiting - (taken % 3 == 2));
 }
 
-/* In an open pass entries are taken and finished; other changes are refused, and what stands may be read. */
+/* While a pass is open, entries may be taken and finished and tables may be read; other changes are refused. */
 static void open_pass(void)
 {
     derrimas_finalizers_passed passed;
@@ -746,7 +747,7 @@ static void open_pass(void)
     IS(derrimas_finalizers_has_waiting(&finalizers), true);
     REFUSED(DERRIMAS_FINALIZERS_NO_PASS, passed, derrimas_finalizers_next(&finalizers, 0, &question, &passed));
     OK(derrimas_finalizers_roots(&finalizers, DERRIMAS_FINALIZERS_HELD_OBJECTS, &from, &word, 1, &count));
-    IS(from >= 1 && count == 1, true); /* a finished entry may have a place */
+    IS(from >= 1 && count == 1, true); /* a finished entry may still have a place */
     closes();
 }
 
@@ -758,7 +759,7 @@ static bool is_asked(const derrimas_question *question, derrimas_ask ask, uint64
     return question->ask == ask && question->count == count && question->what[0] == first;
 }
 
-/* Each bit of the answers to a full question counts, and the next question is about the rest. */
+/* Each bit of the answers to a full question counts, and the next question is about the others. */
 static void each_answer(void)
 {
     derrimas_question question;
@@ -786,7 +787,7 @@ static void each_answer(void)
     }
 }
 
-/* An open pass may be given up with its handle. What a pass did may go untold. */
+/* A handle may be destroyed while a pass is open. The result of a pass may be left out. */
 static void endings(void)
 {
     derrimas_question question;
@@ -815,8 +816,8 @@ static void registers_number(uint64_t object, uint64_t proc)
     OK(derrimas_finalizers_register(&finalizers, object, DERRIMAS_FINALIZERS_NORMAL, proc, proc + 1, 0, NULL, NULL));
 }
 
-/* A pass asks about regions where the options have `marks` or `live`; not where they lack it, and not where they are smaller, whatever stands behind them. Of an
- * object with a registration, two links and two cleanups it asks five times whether it is marked, and twice whether the words are in use. */
+/* A pass asks about regions if the options have `marks` or `live`; not if they are false, and not if the options are smaller, whatever is stored behind them.
+ * For an object with a registration, two links and two cleanups it asks five times whether it is marked, and twice whether the words are live. */
 static void chosen(void)
 {
     derrimas_finalizers_options options = {sizeof options, {NULL, NULL, NULL, NULL}, false, false};
@@ -850,7 +851,7 @@ static void chosen(void)
     }
 }
 
-/* A host without `marks` or `live` makes no pass over a handle that asks for it, and one with them any. */
+/* A host without `marks` or `live` can't make a pass over a handle that needs it, and one with them can make any pass. */
 static void host_without(bool marks)
 {
     derrimas_host lacking = procedures;
@@ -879,7 +880,7 @@ static void host_without(bool marks)
     REFUSED(DERRIMAS_FINALIZERS_NOT_OPEN, passed, derrimas_finalizers_pass(&finalizers, &lacking, &all, &passed));
 }
 
-/* After the marks one object of this number alone was said to be unmarked: it is queued. */
+/* By the marks only the object with this number is unmarked: it is queued. */
 static void alone_is_queued(derrimas_question *question, uint64_t object)
 {
     derrimas_finalizers_passed passed;
@@ -894,10 +895,10 @@ static void alone_is_queued(derrimas_question *question, uint64_t object)
     IS(passed.picked, 1);
 }
 
-/* Where regions begin, on the multiples of 16 and off them. */
+/* Where regions begin, at multiples of 16 and elsewhere. */
 static const uint64_t firsts[] = {1024, (UINT64_C(1) << 47) + 8, UINT64_MAX - 1023, 5 * 1024 + 15};
 
-/* Each bit of a word is of the object at its place; no answer of a bit is read of it. */
+/* Each bit of a word is for the object at its place; no bit of an answer is read from it. */
 static void each_bit(void)
 {
     derrimas_question question;
@@ -918,7 +919,7 @@ static void each_bit(void)
         }
 }
 
-/* Each word is of the region at its place, and the next question is about the rest. */
+/* Each word is for the region at its place, and the next question is about the others. */
 static void each_word(void)
 {
     derrimas_question question;
@@ -935,7 +936,7 @@ static void each_word(void)
             IS(question.ask == DERRIMAS_ASK_MARKS && question.count == (asked ? 1 : DERRIMAS_FINALIZERS_BATCH), true);
             for (uint64_t i = 0; i < question.count; i++) {
                 seen += question.what[i] / 1024;
-                question.marks[i] = asked + i == n ? 0 : 4; /* of the place of the object alone */
+                question.marks[i] = asked + i == n ? 0 : 4; /* for the place of the object only */
                 unmarked = asked + i == n ? question.what[i] + 32 : unmarked;
             }
         }
@@ -954,7 +955,7 @@ static bool has_link(derrimas_finalizers_link_kind kind, uint64_t word)
     return derrimas_finalizers_target(&finalizers, kind, word, &target) == DERRIMAS_FINALIZERS_OK;
 }
 
-/* Each bit is of the target at its place, whose link is cleared, and of the word at its place, whose link goes. */
+/* Each bit is for the target at its place, whose link is cleared, and for the word at its place, whose link is removed. */
 static void each_bit_of_links(derrimas_finalizers_link_kind kind)
 {
     derrimas_question question;
@@ -983,7 +984,7 @@ static void each_bit_of_links(derrimas_finalizers_link_kind kind)
         }
 }
 
-/* Each bit is of the object at its place, whose cleanup is due. */
+/* Each bit is for the object at its place, whose cleanup is due. */
 static void each_bit_of_cleanups(derrimas_finalizers_when when)
 {
     derrimas_finalizers_entry entry;
@@ -1007,7 +1008,7 @@ static void each_bit_of_cleanups(derrimas_finalizers_when when)
         }
 }
 
-/* A question about regions of links, the first of 64 and the second of one; the word of region n is `other`, and those of all others are ones. */
+/* A question about regions of links, the first of 64 and the second of one. The word of region n is `other`, and the words of all others are all ones. */
 static void answers_all_but(derrimas_question *question, derrimas_ask ask, uint64_t n, uint64_t other)
 {
     for (uint64_t asked = 0; asked <= DERRIMAS_FINALIZERS_BATCH; asked += question->count) {
@@ -1019,7 +1020,7 @@ static void answers_all_but(derrimas_question *question, derrimas_ask ask, uint6
     }
 }
 
-/* Each word is of the region at its place: the link to the target there is cleared, and that from the word there goes. */
+/* Each word is for the region at its place: the link to the target there is cleared, and the link from the word there is removed. */
 static void each_word_of_links(derrimas_finalizers_link_kind kind)
 {
     derrimas_question question;
@@ -1043,7 +1044,7 @@ static void each_word_of_links(derrimas_finalizers_link_kind kind)
     }
 }
 
-/* How many regions of words a pass asks about, where all targets are marked, and the words up to this number are in use. */
+/* The number of regions of words that a pass asks about, if all targets are marked and the words up to this number are live. */
 static uint64_t words_asked(uint64_t most)
 {
     derrimas_question question;
@@ -1059,7 +1060,8 @@ static uint64_t words_asked(uint64_t most)
     return count;
 }
 
-/* The region of a word that a link was moved to is asked about; that of the word before once more, as long as it is in use. */
+/* A pass asks about the region of a word to which a link was moved. It also asks about the region of
+ * the old word, until the answer is 0. */
 static void moved_words(derrimas_finalizers_link_kind kind)
 {
     by_regions = true;
@@ -1077,7 +1079,7 @@ static void moved_words(derrimas_finalizers_link_kind kind)
     closes();
 }
 
-/* If all is marked a pass asks about regions alone, one question for each table; young or not. */
+/* If everything is marked a pass asks only about regions, with one question for each table, young or not. */
 static void all_marked(void)
 {
     derrimas_question question;
@@ -1105,7 +1107,7 @@ static void all_marked(void)
     closes();
 }
 
-/* Objects 1 apart are in 16 regions, and large and small numbers are in one each, which may begin at 0. */
+/* Objects at distance 1 are in 16 regions. Large and small numbers are in one region each, which may begin at 0. */
 static void numbers(void)
 {
     static const uint64_t some[] = {1, 2, 3, 15, 16, 1008, 1023, 1024, UINT64_C(1) << 63, UINT64_MAX - 1, UINT64_MAX};
@@ -1118,7 +1120,7 @@ static void numbers(void)
         registers_number(some[n], some[n]);
     OK(derrimas_finalizers_begin(&finalizers));
     OK(derrimas_finalizers_next(&finalizers, 0, &question, NULL));
-    IS(question.ask == DERRIMAS_ASK_MARKS && question.count == 9, true); /* 15 and 1023 are in one, and 16 and 1008 */
+    IS(question.ask == DERRIMAS_ASK_MARKS && question.count == 9, true); /* 15 and 1023 share one, and 16 and 1008 share one */
     for (uint64_t n = 0; n < question.count; n++) {
         IS(question.what[n] % 1024 < 16, true);
         marks += question.what[n] == 0;
@@ -1135,7 +1137,7 @@ static void numbers(void)
     closes();
 }
 
-/* A pass with these answers to its questions about regions, and no object marked among those that are unmarked there: how many regions it asked about. */
+/* A pass with these answers to its questions about regions. Objects that are unmarked there are also unmarked later. Returns how many regions it asked about. */
 static uint64_t regions_asked(uint64_t live, uint64_t others)
 {
     derrimas_question question;
@@ -1148,7 +1150,8 @@ static uint64_t regions_asked(uint64_t live, uint64_t others)
     return count;
 }
 
-/* What isn't registered any more may be asked about, and any answer will do. After the answer 0 it isn't asked about again, until it is registered. */
+/* A pass may ask about a region without registrations, and any answer is accepted. After the answer 0 it doesn't ask again until something is registered
+ * there. */
 static void gone(void)
 {
     by_regions = true;
@@ -1186,7 +1189,7 @@ static void chance_graph(uint64_t seed)
         const uint64_t some = (n + 1) * (seed | 1) * UINT64_C(0x9e3779b97f4a7c15) >> 20;
         objects[n].is_root = some % 5 == 0;
         objects[n].words[0] = some / 5 % 3 ? 0 : number_of(&objects[some / 15 % SMALL]);
-        objects[n].words[1] = number_of(&objects[some / 31 % SMALL]) | (some / 7 % 4 ? UINT64_C(1) << 63 : 0); /* mostly none */
+        objects[n].words[1] = number_of(&objects[some / 31 % SMALL]) | (some / 7 % 4 ? UINT64_C(1) << 63 : 0); /* usually none */
         if (some / 11 % 4)
             registers(&objects[n], (derrimas_finalizers_kind)(some / 13 % 4), n + 1, (uint8_t)(some / 17 % 3));
         for (int kind = DERRIMAS_FINALIZERS_SHORT; kind <= DERRIMAS_FINALIZERS_LONG; kind++)
@@ -1195,8 +1198,8 @@ static void chance_graph(uint64_t seed)
     }
 }
 
-/* What a pass has done by its answers: it marked what it will queue, by MARK and MARK_ALONE, and queued it, and removed links, by CLEAR, and where the holder isn't
- * marked. It queues objects of the kind UNREACHABLE at once, and the others once all are marked: before it asks anything else. */
+/* What a pass has done, as its answers show it: it marked what it will queue, by MARK and MARK_ALONE, and queued it; and it removed links, by CLEAR, and if the
+ * holder isn't marked. It queues objects of the kind UNREACHABLE at once, and the others after all of them are marked and before it asks anything else. */
 struct done {
     uint64_t marked, queued, links;
 };
@@ -1211,7 +1214,7 @@ static bool is_late(uint64_t object)
     return registration.kind == DERRIMAS_FINALIZERS_UNREACHABLE;
 }
 
-/* How many links of a kind have words of which it is said that the holder isn't marked. Each of the two kinds has one question here, and the short ones come first. */
+/* How many links of a kind have words whose holder is reported as unmarked. Each of the two kinds has one question here, and the short ones come first. */
 static uint64_t not_live(derrimas_finalizers_link_kind kind, const derrimas_question *question)
 {
     derrimas_finalizers_link_at link;
@@ -1242,7 +1245,7 @@ static struct done answered_with(const derrimas_question *question, uint64_t ans
     return done;
 }
 
-/* Abandons a pass after so many questions, the last of which isn't answered. False if it has fewer. */
+/* Abandons a pass after so many questions, without answering the last one. False if it has fewer. */
 static bool abandoned_after(uint64_t seed, uint64_t questions)
 {
     derrimas_finalizers_counts before, after;
@@ -1285,7 +1288,7 @@ static bool abandoned_after(uint64_t seed, uint64_t questions)
     return true;
 }
 
-/* Collections, and entries that are taken and finished, until nothing comes any more: how often the procedure of each object came. */
+/* Collects, and takes and finishes entries, until nothing is queued any more. Counts the calls of each object's procedure. */
 static void end_all(uint64_t *came)
 {
     derrimas_finalizers_entry entry;
@@ -1300,7 +1303,7 @@ static void end_all(uint64_t *came)
     closes();
 }
 
-/* A pass is abandoned at each of its questions. The passes after it end what it left: in all each procedure comes as often as without it. */
+/* A pass is abandoned at each of its questions. The passes after it complete its work: in total each procedure is called as often as without it. */
 static void abandoned(void)
 {
     uint64_t wanted[SMALL + 1], came[SMALL + 1], questions;
@@ -1349,7 +1352,7 @@ static void entries(void)
     closes();
 }
 
-/* An entry is held that is the same in all fields, and no other. */
+/* An entry can be finished only if all of its fields are those of a held one. */
 static void held(void)
 {
     derrimas_finalizers_entry entry;
@@ -1395,7 +1398,7 @@ static void roots(void)
     closes();
 }
 
-/* A walk with a buffer without room ends. */
+/* A walk with an empty buffer ends. */
 static void no_room(void)
 {
     uint64_t from = 0, word = 1;
@@ -1415,7 +1418,7 @@ static void no_room(void)
 
 enum { WALKED = 200 };
 
-/* The walks of registrations and links in parts of so many, put together; and that each part begins where the one before ended. */
+/* Walks over registrations and links in parts of so many, joined. Each part begins where the last one ended. */
 static derrimas_finalizers_registration_at registered[WALKED];
 static derrimas_finalizers_link_at linked[2][WALKED];
 static derrimas_finalizers_cleanup_at added[WALKED];
@@ -1444,10 +1447,10 @@ static void walk_links(derrimas_finalizers_link_kind kind, size_t room)
     IS(from, kind == DERRIMAS_FINALIZERS_LONG ? counted().long_links : counted().short_links);
 }
 
-/* The number of the n-th cleanup: they are added with the registrations in turn, the last of them first. */
+/* The number of the n-th cleanup. They are added alternately with the registrations, in reverse order. */
 static uint64_t nth_number(uint64_t n) { return 2 * (WALKED - 1 - n) + 1; }
 
-/* Each cleanup is there once, as it was added. */
+/* The walk has each cleanup once, as it was added. */
 static void walk_cleanups(size_t room)
 {
     uint64_t from = 0, before = 0;
@@ -1468,7 +1471,7 @@ static void walk_cleanups(size_t room)
     }
 }
 
-/* Each is there once, as it was made: of the n-th the object or the word is 8 * n + 8. */
+/* The walk has each item once, as it was made: the n-th has the object or the word 8 * n + 8. */
 static void each_once(uint64_t sum_of_registered, uint64_t sum_of_shorts, uint64_t sum_of_longs)
 {
     uint64_t sums[3] = {0, 0, 0};
@@ -1500,13 +1503,13 @@ static void look_up_cleanups(void)
 
     for (uint64_t n = 0; n < WALKED; n++) {
         const derrimas_finalizers_when when = n % 2 ? DERRIMAS_FINALIZERS_LONG : DERRIMAS_FINALIZERS_SHORT;
-        REFUSED(DERRIMAS_FINALIZERS_EMPTY, it, derrimas_finalizers_cleanup(&finalizers, nth_number(n) - 1, &it)); /* a registration's */
+        REFUSED(DERRIMAS_FINALIZERS_EMPTY, it, derrimas_finalizers_cleanup(&finalizers, nth_number(n) - 1, &it)); /* a number of a registration */
         IS(is_cleanup(nth_number(n), 8 * n + 8, when, n, 3 * n, (uint8_t)(n + 100)), true);
     }
     REFUSED(DERRIMAS_FINALIZERS_EMPTY, it, derrimas_finalizers_cleanup(&finalizers, UINT64_MAX, &it));
 }
 
-/* Looks up each, whether it is there or not. */
+/* Looks up each item, whether it exists or not. */
 static void look_up_all(uint64_t first, uint64_t after)
 {
     for (uint64_t n = 0; n < WALKED; n++) {
@@ -1568,7 +1571,7 @@ static void walks(void)
     closes();
 }
 
-/* What is tried with regions and without. */
+/* The tests that run with regions and without. */
 static void both(void)
 {
     closed();

@@ -1,16 +1,16 @@
-/* What stands between derrimas_finalizers.h and the exports, over exports that only note what they are given: each code comes through from each of them, also
- * those for which a test had to register 2^32 objects; each argument gets to its place; and a place is written only where a call is accepted.
+/* The layer between derrimas_finalizers.h and the exports, over exports that only record their arguments. Each code is returned through each call, including
+ * those for which a test would have to register 2^32 objects. Each argument is passed in its place, and a place is written only if the call is accepted.
  */
 #include "../src/finalizers.c"
 #include "check.h"
 
-static uint8_t answer;       /* what each export answers */
-static uint8_t link_answer;  /* what became of a link, by gc.h's number */
-static uint64_t given[8];    /* what the last one was given */
-static unsigned calls;       /* how many were called */
+static uint8_t answer;       /* the code that each export returns */
+static uint8_t link_answer;  /* the result for a link, by gc.h's number */
+static uint64_t given[8];    /* the arguments of the last call */
+static unsigned calls;       /* the number of calls */
 static derrimas_finalizers finalizers;
 
-/* Notes what an export was given, and fills its place, which counts only where it answers OK. */
+/* Records the arguments of an export, and fills its place, which counts only if it returns OK. */
 static uint8_t noted(void *place, size_t size, uint64_t a, uint64_t b, uint64_t c, uint64_t d, uint64_t e)
 {
     const uint64_t now[] = {a, b, c, d, e};
@@ -42,7 +42,7 @@ uint8_t fz_machine_unregister(derrimas_finalizers *f, uint64_t object, derrimas_
     return noted(old, sizeof *old, f == &finalizers, object, 0, 0, 0);
 }
 
-/* gc.h's number of what became of a link, if the call was accepted. */
+/* gc.h's number for the result of a link, if the call was accepted. */
 static uint8_t told_link(uint8_t code, uint8_t *place)
 {
     if (code == DERRIMAS_FINALIZERS_OK)
@@ -62,7 +62,7 @@ uint8_t fz_machine_unlink(derrimas_finalizers *f, bool is_long, uint64_t word, b
 
 uint8_t fz_machine_move_link(derrimas_finalizers *f, bool is_long, uint64_t word, uint64_t to, uint8_t *place)
 {
-    IS(current == &finalizers.allocator, true); /* the region of a word may take memory */
+    IS(current == &finalizers.allocator, true); /* the region of a word may need memory */
     return told_link(noted(place, sizeof *place, f == &finalizers, is_long, word, to, 0), place);
 }
 
@@ -80,7 +80,7 @@ uint8_t fz_machine_move_ephemeron(derrimas_finalizers *f, uint64_t word, uint64_
 
 uint8_t fz_machine_key_marked(derrimas_finalizers *f, uint64_t key) { return noted(NULL, 0, f == &finalizers, key, 5, 0, 0); }
 
-/* The number of a cleanup, or of entries that are queued, if the call was accepted. */
+/* The number of a cleanup, or the number of queued entries, if the call was accepted. */
 static uint8_t told_number(uint8_t code, uint64_t *place, uint64_t told)
 {
     if (code == DERRIMAS_FINALIZERS_OK)
@@ -128,7 +128,7 @@ uint8_t fz_machine_take(derrimas_finalizers *f, derrimas_finalizers_entry *entry
 uint8_t fz_machine_take_finished(derrimas_finalizers *f, derrimas_finalizers_entry *entry) { return noted(entry, sizeof *entry, f == &finalizers, 2, 0, 0, 0); }
 uint8_t fz_machine_finish(derrimas_finalizers *f, const derrimas_finalizers_entry *entry) { return noted(NULL, 0, f == &finalizers, entry->reg, 0, 0, 0); }
 
-/* Of a handle that isn't changed the exports get a copy. */
+/* The exports get a copy of a handle that they don't change. */
 static bool is_copy(const derrimas_finalizers *f) { return f != &finalizers && f->inside == finalizers.inside; }
 
 uint8_t fz_machine_roots(derrimas_finalizers *f, uint8_t sort, uint64_t from, uint64_t most, fz_machine_words *words)
@@ -140,7 +140,7 @@ uint8_t fz_machine_roots(derrimas_finalizers *f, uint8_t sort, uint64_t from, ui
         if (words->count > most)
             words->count = most;
         words->next = from + words->count;
-        for (uint64_t n = 0; n < words->count; n++) /* of every third place an entry has no object */
+        for (uint64_t n = 0; n < words->count; n++) /* at every third place the entry has no object */
             words->words[n] = sort == DERRIMAS_FINALIZERS_HELD_OBJECTS && (from + n) % 3 == 0 ? 0 : from + n;
     }
     return code;
@@ -155,7 +155,7 @@ uint8_t fz_machine_count(derrimas_finalizers *f, derrimas_finalizers_counts *cou
     return code;
 }
 
-/* As long as a place is below 1,000 there are more, in parts that are full but for the last. */
+/* The walk goes on while the place is below 1,000, in parts that are full except the last. */
 static uint64_t part_from(uint64_t from) { return from < 1000 - FZ_MACHINE_PART ? FZ_MACHINE_PART : 1000 - from; }
 
 uint8_t fz_machine_registrations(derrimas_finalizers *f, uint64_t from, fz_machine_some_registrations *place)
@@ -168,7 +168,7 @@ uint8_t fz_machine_registrations(derrimas_finalizers *f, uint64_t from, fz_machi
     return code;
 }
 
-/* Links, or ephemerons, whose targets are so many times their words. */
+/* Links or ephemerons whose targets are multiples of their words by this factor. */
 static uint8_t some_links(derrimas_finalizers *f, bool is_long, uint64_t from, uint64_t times, fz_machine_some_links *place)
 {
     uint8_t code = from < 1000 ? noted(place, sizeof *place, is_copy(f), is_long, from, 0, 0) : DERRIMAS_FINALIZERS_EMPTY;
@@ -233,7 +233,7 @@ uint8_t fz_machine_target(derrimas_finalizers *f, bool is_long, uint64_t word, u
 
 /* ---- checks */
 
-/* The call answers what its export answers, which was given these; its place is written where that is OK, and else as it was. */
+/* The call returns what its export returns, and passed these arguments. Its place is written if that is OK, and unchanged otherwise. */
 #define THROUGH(place, call, ...)                                                                                      \
     do {                                                                                                               \
         const uint64_t wanted[] = {__VA_ARGS__};                                                                       \
@@ -250,7 +250,7 @@ static derrimas_finalizers_linked linked;
 static uint64_t number;
 static bool was;
 
-/* gc.h's numbers, which the exports return, get numbers that are no codes, and back. */
+/* gc.h's numbers, which the exports return, are mapped to numbers that are no codes, and back. */
 static void answers_of_links(void)
 {
     static const derrimas_finalizers_linked all[] = {DERRIMAS_FINALIZERS_LINKED, DERRIMAS_FINALIZERS_DUPLICATE, DERRIMAS_FINALIZERS_NOT_FOUND};
@@ -274,7 +274,7 @@ static void answers_of_links(void)
     link_answer = 0;
 }
 
-/* What the handle and its export are told by an opening with these options. */
+/* What the handle and its export get from an opening with these options. */
 static void opens_with(const derrimas_finalizers_options *options, bool marks, bool live)
 {
     const bool is_ok = answer == DERRIMAS_FINALIZERS_OK;
@@ -288,7 +288,7 @@ static void opens_with(const derrimas_finalizers_options *options, bool marks, b
     IS(current == NULL, true);
 }
 
-/* Without options, of the size of now and of one without `marks` and `live`, whose bytes aren't read then. */
+/* Without options; with options of the present size; and of the size without `marks` and `live`, whose bytes aren't read then. */
 static void opens(void)
 {
     derrimas_finalizers_options options = {sizeof options, libc, false, false};
@@ -347,7 +347,8 @@ static void changes(void)
     IS(given[1], 70);
 }
 
-/* How many entries wait follows what the exports say: 34 more at a pass's end, 5 of .._queue_all, 7 of .._queue_cleanups, one fewer by a take. */
+/* The number of waiting entries follows what the exports return: 34 more at the end of a pass, 5 by .._queue_all, 7 by .._queue_cleanups, one fewer by a
+ * take. */
 static void waiting(void)
 {
     const bool is_ok = answer == DERRIMAS_FINALIZERS_OK, has_ended = answer == DERRIMAS_FINALIZERS_EMPTY;
@@ -375,7 +376,7 @@ static void waiting(void)
     THROUGH(entry, derrimas_finalizers_take_finished(&finalizers, &entry), 1, 2);
     IS(finalizers.waiting, is_ok ? 22 : has_ended ? 68 : 0);
     calls = 0;
-    IS(derrimas_finalizers_abandon(&finalizers), answer); /* how many wait then is read anew */
+    IS(derrimas_finalizers_abandon(&finalizers), answer); /* the number of waiting entries is read anew */
     IS(calls, is_ok ? 2 : 1);
     IS(finalizers.waiting, is_ok ? 48 : has_ended ? 68 : 0);
     entry.reg = 15;
@@ -393,7 +394,7 @@ static bool is_shown_cleanup(const derrimas_finalizers_cleanup_at *it, uint64_t 
     return it->number == number && it->object == 52 && it->proc == 53 && it->cd == 54 && it->when == when && it->rank == 55;
 }
 
-/* The same of cleanups. */
+/* The same for cleanups. */
 static void walks_of_cleanups(size_t room)
 {
     static derrimas_finalizers_cleanup_at cleanups[1000];
@@ -411,7 +412,7 @@ static void walks_of_cleanups(size_t room)
     IS(from, answer == DERRIMAS_FINALIZERS_OK ? 1000 : 100);
 }
 
-/* Parts of each size are one walk, and begin at their place. */
+/* Parts of any size form the same walk, and begin at their place. */
 static void walks(size_t room)
 {
     static derrimas_finalizers_registration_at registrations[1000];
@@ -481,7 +482,7 @@ static void reads(void)
         IS(buffer[n], n + 110);
 }
 
-/* Objects of entries: those that are 0 aren't copied, and a part goes on until it is full. */
+/* Objects of entries: those that are 0 aren't copied, and a part continues until it is full. */
 static void held_objects(size_t room)
 {
     uint64_t buffer[1000], from = 100, wanted = 100;
@@ -497,7 +498,7 @@ static void held_objects(size_t room)
     IS(wanted, answer == DERRIMAS_FINALIZERS_OK ? 999 : 100);
 }
 
-/* A kind that is none goes to no export. */
+/* An invalid kind isn't passed to any export. */
 static void bad_kinds(void)
 {
     const derrimas_finalizers_link_kind kind = (derrimas_finalizers_link_kind)257;
@@ -518,7 +519,7 @@ static void bad_kinds(void)
     IS(calls, 0);
 }
 
-/* Each code has a name and a sentence of its own, as its constant and its comment have it, and no other number has one. */
+/* Each code has a name and a sentence of its own, as in its constant and its comment. No other number has one. */
 static void texts(void)
 {
     for (unsigned code = 0; code <= DERRIMAS_FINALIZERS_PENDING; code++)

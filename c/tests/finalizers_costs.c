@@ -1,5 +1,5 @@
-/* finalizers_costs N STRIDE: registrations, links, ephemerons, cleanups, walks and look-ups of N objects so many numbers apart. c/run counts the instructions of each function here
- * whose name begins with `cost_`: for each of N, or of 10,000 calls where it finds something, they don't grow with N.
+/* finalizers_costs N STRIDE: registrations, links, ephemerons, cleanups, walks and look-ups of N objects whose numbers are so far apart. c/run counts the
+ * instructions of each function here whose name begins with `cost_`: divided by N, or by 10,000 calls if it looks something up, they don't grow with N.
  */
 #include "check.h"
 #include "derrimas_finalizers.h"
@@ -14,12 +14,12 @@ static uint64_t size, stride, wrong, next_number;
 
 static uint64_t object_at(uint64_t n) { return first + stride * n; }
 
-/* The n-th of the calls, all over the table. */
+/* The index of the n-th call, spread over the table. */
 static uint64_t some_object(uint64_t n) { return object_at(n * 7919 % size); }
 
 #define COST __attribute__((noinline)) static void
 
-/* A walk over all that there is of these, in parts whose items have this type. */
+/* A walk over all items of this type, in parts. */
 #define WALKING(what, type, ...)                                                                                                              \
     COST cost_walking_##what(void)                                                                                                            \
     {                                                                                                                                         \
@@ -73,7 +73,7 @@ COST cost_walking_roots(void)
     wrong += all != size;
 }
 
-/* As many moves as there are links, to words that are new. */
+/* As many moves as there are links, to words without a link. */
 COST cost_moving(void)
 {
     for (uint64_t n = 0; n < size; n++)
@@ -96,7 +96,7 @@ COST cost_finding_keys(void)
 
 WALKING(ephemerons, derrimas_finalizers_link_at, DERRIMAS_FINALIZERS_LONG, &from)
 
-/* Their numbers follow one another. */
+/* Their numbers are consecutive. */
 COST cost_adding(void)
 {
     for (uint64_t n = 0; n < size; n++)
@@ -122,7 +122,7 @@ COST cost_cancelling(void)
         wrong += derrimas_finalizers_cancel(&finalizers, next_number - n, &old) != DERRIMAS_FINALIZERS_OK || !old.was;
 }
 
-/* The tables grow, which comes at some sizes, and stay as large as they are. */
+/* The tables grow, which happens at some sizes, and keep their size afterwards. */
 static void make_room(void)
 {
     for (uint64_t n = 0; n < size; n++)

@@ -1,5 +1,6 @@
-/* Ephemerons of derrimas_finalizers.h: each call over the range of its arguments, with each answer and each refusal; worked rows; the questions of passes over chains of
- * them, with the keys that are told and without; hosts that lie or lack mark_value. All of this with the options `marks` and `live` too.
+/* Ephemerons of derrimas_finalizers.h: each call over the range of its arguments, with each return value and each refusal; worked rows; the questions of passes
+ * over chains of ephemerons, with reports of marked keys and without; hosts that give false answers or lack mark_value. Everything is also tested with the
+ * options `marks` and `live`.
  */
 #include "finalizers_host.h"
 
@@ -58,7 +59,7 @@ static bool ended(uint64_t word)
     return was;
 }
 
-/* Whether the word is an ephemeron of this kind and key. A key of 0: whether it is none. */
+/* Whether the word is an ephemeron of this kind and key. If the key is 0: whether it is none. */
 static bool is_keyed(uint64_t word, derrimas_finalizers_link_kind kind, uint64_t key)
 {
     derrimas_finalizers_link_kind found = (derrimas_finalizers_link_kind)7;
@@ -82,7 +83,7 @@ static void row(derrimas_finalizers_link_kind kind, size_t holder, size_t word, 
 static void points(size_t from, size_t to) { objects[from].words[0] = number_of(&objects[to]); }
 static void registers(size_t n, uint64_t proc) { OK(derrimas_finalizers_register(&finalizers, number_of(&objects[n]), DERRIMAS_FINALIZERS_NORMAL, proc, 0, 0, NULL, NULL)); }
 
-/* The objects from 1 up to this one are roots, or aren't. */
+/* Makes the objects from 1 up to this one roots, or no roots. */
 static void roots(size_t most, bool are)
 {
     for (size_t n = 1; n <= most; n++)
@@ -100,7 +101,7 @@ static void collects(size_t most, uint64_t picked, uint64_t left)
     IS(marked, left);
 }
 
-/* Takes the next entry, whose procedure is this, and finishes it. */
+/* Takes and finishes the next entry, which must have this procedure. */
 static void runs(uint64_t proc)
 {
     derrimas_finalizers_entry entry;
@@ -127,7 +128,7 @@ static void changes_are_refused(derrimas_finalizers_code code)
     IS(derrimas_finalizers_move_ephemeron(&finalizers, 8, 16, NULL), code);
 }
 
-/* Before all else, also where the handle isn't open. */
+/* It comes before all other causes, also if the handle isn't open. */
 static void kinds_are_refused(void)
 {
     derrimas_finalizers_linked answer;
@@ -161,7 +162,7 @@ static void closed(void)
     IS(from, 3);
 }
 
-/* In an open pass; looking up and walking go on. */
+/* While a pass is open these are refused, but look-ups and walks are accepted. */
 static void in_a_pass(void)
 {
     derrimas_finalizers_link_at at;
@@ -183,7 +184,7 @@ static void in_a_pass(void)
 
 /* ---- the calls */
 
-/* A word or a key of 0 is none; all other numbers are kept as they are. */
+/* A word or a key of 0 is invalid; any other number is stored unchanged. */
 static void making(void)
 {
     static const uint64_t values[] = {0, 1, UINT64_C(1) << 47, UINT64_C(1) << 63, UINT64_MAX};
@@ -208,7 +209,7 @@ static void making(void)
     closes();
 }
 
-/* A word has one ephemeron, and may have a link of each kind beside it. */
+/* A word has one ephemeron, and may also have a link of each kind. */
 static void beside_links(void)
 {
     uint64_t target;
@@ -259,7 +260,7 @@ static void moving(derrimas_finalizers_link_kind kind)
     OK(derrimas_finalizers_move_ephemeron(&finalizers, 32, 8, NULL));
     IS(is_keyed(8, kind, 100) && is_keyed(32, kind, 0), true);
     IS(ended(16) && ended(24), true);
-    for (uint64_t n = 8; n < 80000; n += 8) /* the table is rebuilt now and then */
+    for (uint64_t n = 8; n < 80000; n += 8) /* the table is rebuilt occasionally */
         IS(moved(n, n + 8), LINKED);
     IS(is_keyed(80000, kind, 100) && counted().short_ephemerons + counted().long_ephemerons == 1, true);
     closes();
@@ -311,7 +312,7 @@ static void walking(void)
 
 /* ---- worked rows: object 0 is the table */
 
-/* A value that leads to its key: the row lasts as long as the key is used otherwise. A new object of the key's number doesn't bring it back. */
+/* A value that reaches its key: the row is kept while the key is used otherwise. A new object with the key's number doesn't restore it. */
 static void value_leads_to_its_key(void)
 {
     opens();
@@ -328,7 +329,7 @@ static void value_leads_to_its_key(void)
     closes();
 }
 
-/* Each value is the key of the row before: all rows last, or none. */
+/* Each value is the key of the row before: all rows are kept, or none. */
 static void chain_against_the_order(void)
 {
     opens();
@@ -353,7 +354,7 @@ static void lost_table(void)
     closes();
 }
 
-/* The value of the long row leads to the key, whose finalizer is queued all the same. */
+/* The value of the long row reaches the key, whose finalizer is queued all the same. */
 static void short_and_long_rows(void)
 {
     opens();
@@ -373,7 +374,7 @@ static void short_and_long_rows(void)
     closes();
 }
 
-/* A registered object is led to by the row of a key that another registered object leads to. */
+/* A registered object is reachable from the row of a key, which another registered object reaches. */
 static void led_to_by_a_row(void)
 {
     opens();
@@ -390,7 +391,7 @@ static void led_to_by_a_row(void)
     closes();
 }
 
-/* A registered value that leads to its own key: in a long row it waits for itself, unless it is of kind NO_ORDER; a short row is cleared before. */
+/* A registered value that reaches its own key. In a long row it waits for itself, unless it has the kind NO_ORDER; a short row is cleared before. */
 static void registered_value(derrimas_finalizers_link_kind of, derrimas_finalizers_kind kind)
 {
     const bool waits = of == LONG && kind != DERRIMAS_FINALIZERS_NO_ORDER;
@@ -409,7 +410,7 @@ static void registered_value(derrimas_finalizers_link_kind of, derrimas_finalize
     closes();
 }
 
-/* A word in no object: the key alone decides. */
+/* A word outside of all objects: only the key decides. */
 static void word_of_no_object(void)
 {
     static uint64_t word;
@@ -426,14 +427,14 @@ static void word_of_no_object(void)
     closes();
 }
 
-/* A row of a weak table: the word of the key is a link, and that of the value an ephemeron of the same kind. A pass clears both or neither. */
+/* A row of a weak table: the word of the key is a link, and the word of the value an ephemeron of the same kind. A pass clears both or neither. */
 static void link_and_ephemeron(derrimas_finalizers_link_kind kind)
 {
     opens();
     objects[0].is_root = true;
     registers(1, 30);
     points(2, 1);
-    objects[0].keyed[1] = true; /* the host doesn't follow the word of a link either */
+    objects[0].keyed[1] = true; /* the host doesn't scan the word of a link either */
     objects[0].words[1] = number_of(&objects[1]);
     OK(derrimas_finalizers_link(&finalizers, kind, word_of(&objects[0], 1), number_of(&objects[1]), NULL));
     row(kind, 0, 0, 1, 2);
@@ -446,7 +447,7 @@ static void link_and_ephemeron(derrimas_finalizers_link_kind kind)
     closes();
 }
 
-/* A word that is a short link, too: it is cleared if the link's target isn't marked, even by a value, and stays an ephemeron. */
+/* A word that is also a short link. It is cleared if the link's target isn't marked, even if a value marks it later, and stays an ephemeron. */
 static void word_with_a_link(void)
 {
     opens();
@@ -467,7 +468,7 @@ static void word_with_a_link(void)
     closes();
 }
 
-/* A key with its own row in it, and one that is its own value. */
+/* A key that contains its own row, and a key that is its own value. */
 static void own_rows(derrimas_finalizers_link_kind kind)
 {
     opens();
@@ -482,7 +483,7 @@ static void own_rows(derrimas_finalizers_link_kind kind)
     closes();
 }
 
-/* What a value keeps has its short links and its short cleanups, until the key is lost. */
+/* What a value retains keeps its short links and its short cleanups until the key is lost. */
 static void kept_by_a_value(void)
 {
     static uint64_t word;
@@ -505,7 +506,7 @@ static void kept_by_a_value(void)
 
 /* ---- questions */
 
-/* So many rows whose values are the keys of the next, in the order of the table or against it; the first key is a root. */
+/* So many rows whose values are the keys of the next ones, in the order of the table or in reverse; the first key is a root. */
 static void long_chain(size_t rows, bool against)
 {
     opens();
@@ -526,7 +527,7 @@ static void long_chain(size_t rows, bool against)
     closes();
 }
 
-/* A chain over objects that are numbers: object n is 16 * n, and the row of its key has the word 16 * n + 8, which lies in no object, and the value 16 * (n + 1). */
+/* A chain over objects that are numbers: object n is 16 * n. The row of its key has the word 16 * n + 8, which is in no object, and the value 16 * (n + 1). */
 enum { LONGEST = 100000 };
 
 static struct {
@@ -567,7 +568,8 @@ static void passes_over_chain(bool first_is_marked)
     }
 }
 
-/* Where each key is told that is marked, the questions and the answers are proportional to the rows, whatever their order: 1 is that of the chain, the last against it. */
+/* If each marked key is reported, the questions and the answers are proportional to the rows, in any order: step 1 is the order of the chain, the last one the
+ * reverse. */
 static void chain_in_order(uint64_t rows, uint64_t step, bool tells)
 {
     opens();
@@ -586,7 +588,7 @@ static void chain_in_order(uint64_t rows, uint64_t step, bool tells)
     closes();
 }
 
-/* A step that has no divisor with the rows goes over all of them. */
+/* A step that is coprime to the number of rows visits all of them. */
 static void long_chains(void)
 {
     static const uint64_t lengths[] = {1, 2, 63, 64, 65, 1000, 10000, LONGEST};
@@ -604,8 +606,8 @@ static void long_chains(void)
     }
 }
 
-/* Rows of one key are told together, each once, and one whose holder isn't marked yet waits for the next round about all. What is told falsely, twice, of no key, or at
- * another question changes nothing. */
+/* Rows of one key are reported together, each once. One whose holder isn't marked yet waits for the next round over all rows. False reports, repeated ones,
+ * ones of no key, and ones at another question change nothing. */
 static bool tells_all(void *data, uint64_t word)
 {
     const bool is_new = mark_value(data, word);
@@ -648,22 +650,22 @@ static void host_that_tells_all(void)
     closes();
 }
 
-/* Of a row whose key or holder isn't marked the value isn't asked. */
+/* If the key or the holder of a row isn't marked, the pass doesn't ask about its value. */
 static void values_that_are_asked(void)
 {
     opens();
     objects[0].is_root = objects[1].is_root = true;
     row(LONG, 0, 0, 1, 4); /* both are marked */
-    row(LONG, 0, 1, 2, 5); /* the key isn't */
-    row(LONG, 3, 0, 1, 6); /* the holder isn't */
-    row(LONG, 3, 1, 2, 7); /* neither is */
+    row(LONG, 0, 1, 2, 5); /* the key isn't marked */
+    row(LONG, 3, 0, 1, 6); /* the holder isn't marked */
+    row(LONG, 3, 1, 2, 7); /* neither is marked */
     collects(7, 0, 3);
     IS(all.asked[DERRIMAS_ASK_MARK_VALUE], 1);
     IS(objects[4].is_marked && counted().long_ephemerons == 1, true);
     closes();
 }
 
-/* A host that says of each value that something may have been marked: the result is the same, and a pass ends. */
+/* A host that reports for each value that something may have been marked: the result is the same, and the pass ends. */
 static bool always(void *data, uint64_t word) { return (void)mark_value(data, word), true; }
 
 static void host_that_always_says_so(void)
@@ -676,7 +678,7 @@ static void host_that_always_says_so(void)
     objects[0].is_root = objects[1].is_root = true;
     for (size_t n = 0; n < WORDS; n++)
         row(SHORT, 0, n, 1, 10 + n);
-    for (size_t n = 0; n < 66; n++) /* these wait till the end */
+    for (size_t n = 0; n < 66; n++) /* these wait until the end */
         row(SHORT, 900 + n, 0, 800, 100 + n);
     mark_all(&all, &finalizers);
     OK(derrimas_finalizers_pass(&finalizers, &says, &all, &passed));
@@ -684,7 +686,7 @@ static void host_that_always_says_so(void)
     closes();
 }
 
-/* A host without mark_value makes no pass as long as there are ephemerons. */
+/* A host without mark_value can't make a pass while there are ephemerons. */
 static void host_without_values(void)
 {
     derrimas_host lacking = procedures;
@@ -706,7 +708,7 @@ static void host_without_values(void)
     REFUSED(DERRIMAS_FINALIZERS_NOT_OPEN, passed, derrimas_finalizers_pass(&finalizers, &lacking, &all, &passed));
 }
 
-/* Without ephemerons, and with one whose key isn't marked, a pass asks of no value. */
+/* Without ephemerons, and with one whose key isn't marked, a pass asks about no value. */
 static void none_waits(void)
 {
     opens();
@@ -720,7 +722,7 @@ static void none_waits(void)
     closes();
 }
 
-/* Abandoned at each of its questions: each ephemeron is still there or its word was cleared, and the next pass decides the same. */
+/* Abandoned at each of its questions: each ephemeron either still exists or its word was cleared, and the next pass makes the same decisions. */
 static bool abandoned_after(uint64_t questions)
 {
     derrimas_question question;
@@ -758,7 +760,7 @@ static void abandoned(void)
     IS(questions > 10, true);
 }
 
-/* What is told to a trace: the words of ephemerons that are cleared, too. */
+/* A trace also reports the words of ephemerons that are cleared. */
 static uint64_t told_word;
 static void tells(void *data, uint64_t word) { (void)data, told_word = word; }
 

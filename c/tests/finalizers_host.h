@@ -1,5 +1,5 @@
-/* A small host for the tests of derrimas_finalizers.h: objects of four words, a mark for each, and roots. A word that is `keyed` is an ephemeron, and isn't marked with
- * its object. The host counts what it is asked. */
+/* A small host for the tests of derrimas_finalizers.h: objects of four words, a mark for each, and roots. A word that is `keyed` is an ephemeron, and isn't
+ * scanned with its object. The host counts the questions. */
 #ifndef FINALIZERS_HOST_H
 #define FINALIZERS_HOST_H
 
@@ -15,13 +15,13 @@ typedef struct object {
 
 typedef struct host {
     object objects[OBJECTS];
-    uint64_t asked[DERRIMAS_ASK_MARK_VALUE + 1]; /* how often what was asked */
+    uint64_t asked[DERRIMAS_ASK_MARK_VALUE + 1]; /* the number of questions of each sort */
 } host;
 
 static inline uint64_t number_of(const object *it) { return (uint64_t)(uintptr_t)it; }
 static inline uint64_t word_of(object *it, size_t word) { return (uint64_t)(uintptr_t)&it->words[word]; }
 
-/* The object to which a word leads: any address within it does. */
+/* The object to which a word points. Interior addresses count. */
 static inline object *found(host *all, uint64_t word)
 {
     uint64_t first = number_of(all->objects);
@@ -29,7 +29,7 @@ static inline object *found(host *all, uint64_t word)
     return word >= first && word < first + sizeof all->objects ? &all->objects[(word - first) / sizeof(object)] : NULL;
 }
 
-/* Marks the object, if it is one, and all to which it leads. */
+/* Marks the object, if it is one, and everything that it reaches. */
 static inline void mark(host *all, object *it)
 {
     if (!it || it->is_marked)
@@ -92,7 +92,7 @@ static bool holder_is_marked(void *data, uint64_t word)
     return !holder || holder->is_marked;
 }
 
-/* Of places where no object begins every second is said to be marked. */
+/* Of the places where no object begins, every second one is reported as marked. */
 static uint64_t answer_marks(void *data, uint64_t first)
 {
     host *all = data;
@@ -108,7 +108,7 @@ static uint64_t answer_marks(void *data, uint64_t first)
     return marks;
 }
 
-/* Any address within an object is in it. */
+/* Any interior address is in its object. */
 static uint64_t answer_live(void *data, uint64_t first)
 {
     host *all = data;
@@ -136,7 +136,7 @@ static bool mark_value(void *data, uint64_t word)
 
 static const derrimas_host procedures = {answer_is_marked, mark_children, mark_it, mark_alone, clear, holder_is_marked, answer_marks, answer_live, mark_value};
 
-/* Marks from the host's roots, and from those of the finalizers. */
+/* Marks from the host's roots and from the roots of the finalizers. */
 static inline void mark_all(host *all, const derrimas_finalizers *finalizers)
 {
     uint64_t buffer[7], from;

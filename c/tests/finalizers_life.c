@@ -1,5 +1,5 @@
-/* The memory of a handle that lives long: passes by the thousand, a million entries at once, and what forgetting and shrinking give back. The bytes are
- * those that the handle's own allocator has given out, so the limits are exact.
+/* The memory of a handle that is open for long: thousands of passes, a million entries at once, and what forgetting and shrinking free. The bytes are those
+ * that the handle's own allocator has allocated, so the limits are exact.
  */
 #include "check.h"
 #include "derrimas_finalizers.h"
@@ -9,8 +9,8 @@ enum { PASSES = 3000, OBJECTS = 500, MILLION = 1000000, HEAD = 16 };
 
 /* What an allocator's `data` points to. */
 typedef struct heap {
-    size_t live;     /* the bytes that it has given out */
-    uint64_t grants; /* how often it gave memory */
+    size_t live;     /* the bytes in use */
+    uint64_t grants; /* the number of allocations */
 } heap;
 
 static heap memory;
@@ -46,7 +46,7 @@ static void release(void *data, void *at)
     free((char *)at - HEAD);
 }
 
-/* A host of which nothing is ever marked and no object has references. */
+/* A host in which nothing is ever marked and objects have no references. */
 static bool is_marked(void *data, uint64_t object) { return (void)data, (void)object, false; }
 static void mark_children(void *data, uint64_t object, bool but_itself) { (void)data, (void)object, (void)but_itself; }
 static void mark(void *data, uint64_t object) { (void)data, (void)object; }
@@ -55,7 +55,7 @@ static const derrimas_host nothing_lives = {is_marked, mark_children, mark, mark
 
 static uint64_t object_at(uint64_t n) { return 65536 + 16 * n; }
 
-/* So many objects are registered, each with a link of each kind, from this number on. */
+/* Registers so many objects from this number on, each with a link of each kind. */
 static void register_from(uint64_t first, uint64_t count)
 {
     uint64_t wrong = 0;
@@ -76,7 +76,7 @@ static void pass_that_queues(uint64_t count)
     IS(passed.picked, count);
 }
 
-/* Takes all that waits, and finishes it but for the first `kept`. */
+/* Takes all waiting entries, and finishes all but the first `kept`. */
 static void take_and_finish(uint64_t count, uint64_t kept)
 {
     derrimas_finalizers_entry entry;
@@ -93,12 +93,12 @@ static size_t round_of(uint64_t n)
 {
     register_from(n * OBJECTS, OBJECTS);
     pass_that_queues(OBJECTS);
-    /* one entry in 100 passes is never finished, so that its place is in the way of whatever forgets from the beginning alone */
+    /* one entry in 100 passes is never finished, so its place would block an implementation that frees entries only from the beginning */
     take_and_finish(OBJECTS, n % 100 == 0);
     return memory.live;
 }
 
-/* A round after another takes no more memory than the first hundred did, but for what is held. */
+/* A round takes no more memory than the first hundred rounds did, except for held entries. */
 static void many_passes(void)
 {
     size_t settled = 0, most = 0;
@@ -114,13 +114,13 @@ static void many_passes(void)
             most = live;
         }
     }
-    /* room for what is held, which grows by an eighth */
+    /* room for the held entries, which grows by an eighth */
     IS(most <= settled + settled / 4, true);
-    /* a table that has settled isn't built anew for each pass */
+    /* a table of constant size isn't rebuilt for each pass */
     IS(memory.grants - grants <= 60, true);
 }
 
-/* Room grows by a share of itself: so few growths serve a million. And what a peak took comes back. */
+/* Room grows by a fraction of its size, so a few growths are enough for a million. And the memory of a peak is freed. */
 static void one_peak(void)
 {
     derrimas_finalizers_counts counts;

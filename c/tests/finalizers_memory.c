@@ -1,6 +1,6 @@
-/* Memory of a host's own, by its options. Each allocation is refused once, after which nothing has changed; no call but those that derrimas_finalizers.h names
- * asks for memory or gives any back; calls that take a const handle write to none of it, which is then read-only; and each handle has its own. All of this
- * without the options `marks` and `live` and with them.
+/* Memory by a host's own allocator, which the options name. Each allocation is refused once, and nothing has changed then. Only the calls that
+ * derrimas_finalizers.h names allocate or free memory. Calls that take a const handle write to none of its memory, which is read-only during the test. Each
+ * handle has its own memory. Everything is tested without the options `marks` and `live` and with them.
  */
 #define _DEFAULT_SOURCE /* for MAP_ANONYMOUS */
 #include "finalizers_host.h"
@@ -11,14 +11,14 @@ enum { HEAD = 16, ROOM = 1 << 28 };
 
 /* What an allocator's `data` points to. */
 typedef struct heap {
-    unsigned char *memory;    /* all of it: what is freed isn't used again */
-    size_t used;              /* of it */
-    long granted;             /* how many allocations are granted yet; none is refused where it is negative */
-    unsigned asked, standing; /* how often the three were called; how many blocks aren't freed */
-    size_t live;              /* the bytes of those */
-    unsigned strange;         /* how often something came that wasn't given here */
-    unsigned refused;         /* how often an allocation was refused */
-    void (*within)(void);     /* called by each, if it isn't NULL */
+    unsigned char *memory;    /* the whole arena: freed memory isn't reused */
+    size_t used;              /* the part in use */
+    long granted;             /* the number of allocations still granted; if negative, none is refused */
+    unsigned asked, standing; /* the number of calls of the three functions; the number of blocks not freed */
+    size_t live;              /* the bytes of these blocks */
+    unsigned strange;         /* how often a block was passed that wasn't allocated here */
+    unsigned refused;         /* the number of refused allocations */
+    void (*within)(void);     /* called by each function, if not NULL */
 } heap;
 
 static heap first = {.granted = -1}, second = {.granted = -1};
@@ -95,7 +95,7 @@ static void closes(void)
     first.used = 0;
 }
 
-/* Makes a call with none, one, two, .. allocations granted, up to where it is accepted: else it is refused, and nothing has changed. Adds to *refusals. */
+/* Makes a call with none, one, two, .. allocations granted, until it is accepted. If it is refused nothing has changed. Adds to *refusals. */
 #define WITHIN(refusals, place, call)                                                                                  \
     do {                                                                                                               \
         derrimas_finalizers_counts before = counted(), after;                                                          \
@@ -133,7 +133,8 @@ static void opening(void)
     closes();
 }
 
-/* All is registered, linked, keyed and added with too little memory at first; then each object is registered again, and each ephemeron made, in another kind. */
+/* Everything is registered, linked, keyed and added, at first with too little memory. Then each object is registered again, and each ephemeron made again, with
+ * another kind. */
 static void refusals(void)
 {
     unsigned registering = 0, linking = 0, keying = 0, adding = 0;
@@ -166,7 +167,7 @@ static void refusals(void)
     closes();
 }
 
-/* In the place of one of another kind: that takes no memory. */
+/* Replaces one of another kind, which takes no memory. */
 static void replacing(derrimas_finalizers_kind kind, derrimas_finalizers_kind other)
 {
     derrimas_finalizers_registration_at before, after;
@@ -192,7 +193,7 @@ static void replacing(derrimas_finalizers_kind kind, derrimas_finalizers_kind ot
     closes();
 }
 
-/* Where too much is asked for, nothing has changed either. */
+/* If too much is requested, nothing has changed either. */
 static void too_much(void)
 {
     OK(derrimas_finalizers_open(&finalizers, &options));
@@ -205,7 +206,7 @@ static void too_much(void)
     closes();
 }
 
-/* Refused for lack of memory alone, an ephemeron and a cleanup are no other cause's; and they use up none of what is reserved. */
+/* An ephemeron or a cleanup is refused only for lack of memory; and neither uses reserved places. */
 static void adding_without_memory(void)
 {
     derrimas_finalizers_linked answer;
@@ -219,7 +220,8 @@ static void adding_without_memory(void)
         REFUSED(DERRIMAS_FINALIZERS_NO_MEMORY, number, derrimas_finalizers_add_cleanup(&finalizers, 8, DERRIMAS_FINALIZERS_LONG, 1, 2, 3, &number));
 }
 
-/* Up to what is reserved, no memory is asked for but for ephemerons, for cleanups and for regions, without which registrations and links are accepted. */
+/* Within the reserved places no memory is requested, except for ephemerons, cleanups and regions. Registrations and links are accepted without memory for a
+ * region. */
 static void reserved(void)
 {
     unsigned refused = 0, before;
@@ -264,10 +266,10 @@ static uint64_t some_word(const bool *has, bool linked)
     return n;
 }
 
-/* Words that fill some groups of a table and leave others free. */
+/* Words that fill some groups of a table and leave others empty. */
 static uint64_t scattered(uint64_t n) { return (n + 1) * UINT64_C(0x9e3779b97f4a7c15) >> 8; }
 
-/* Only a new link uses a reserved place: moves, links that are replaced and links that are removed use none up. */
+/* Only a new link uses a reserved place; moved, replaced and removed links don't. */
 static void reserved_places(derrimas_finalizers_link_kind kind, uint64_t before, uint64_t reserved_links)
 {
     const bool unlinks = chance(3) == 0;
@@ -304,7 +306,7 @@ static void reserved_places(derrimas_finalizers_link_kind kind, uint64_t before,
     closes();
 }
 
-/* Also where the places are as many as a table has at most. */
+/* Also if the number of places is the maximum of a table. */
 static void reserved_in_fuzz(void)
 {
     for (uint64_t round = 1; round <= 80; round++) {
@@ -335,7 +337,7 @@ static bool finds_cleanup(uint64_t number)
 
 static bool is_of_regions(const derrimas_question *question) { return question->ask == DERRIMAS_ASK_MARKS || question->ask == DERRIMAS_ASK_LIVE; }
 
-/* A pass in which the objects up to this one are marked, and the holders of the words up to there: it forgets the regions of others. */
+/* A pass in which the objects up to this one are marked, and the holders of the words up to that one: it drops the regions of others. */
 static void forgets_regions(uint64_t left)
 {
     derrimas_question question;
@@ -349,7 +351,7 @@ static void forgets_regions(uint64_t left)
         }
 }
 
-/* After a peak and a shrink no more bytes are allocated than one and a half times those of a fresh handle. Refused memory, it changes nothing that is seen. */
+/* After a peak and a shrink, at most one and a half times the bytes of a fresh handle are allocated. If memory is refused, no visible state changes. */
 static uint64_t of_peak(uint64_t peak, uint64_t left, bool shrinks, long granted)
 {
     uint64_t live;
@@ -398,7 +400,7 @@ static void shrinks(void)
 
 enum { NOTED = 120 };
 
-/* Whether the call that returned this is to be made again. One allocation alone is refused. */
+/* Whether to repeat the call that returned this code. Only one allocation is refused. */
 static bool is_refused(derrimas_finalizers_code code)
 {
     if (first.refused)
@@ -407,7 +409,7 @@ static bool is_refused(derrimas_finalizers_code code)
     return code != DERRIMAS_FINALIZERS_OK;
 }
 
-/* A link from a word, which isn't followed. */
+/* Makes a link from a word that isn't scanned. */
 static void links_again(derrimas_finalizers_link_kind kind, size_t n, size_t word, size_t target)
 {
     objects[n].words[word] = number_of(&objects[target]);
@@ -416,7 +418,7 @@ static void links_again(derrimas_finalizers_link_kind kind, size_t n, size_t wor
         ;
 }
 
-/* A registration, a cleanup and two links of each object; every second short link is moved. */
+/* Makes a registration, a cleanup and two links for each object; every second short link is moved. */
 static void notes_all(void)
 {
     for (size_t n = 0; n < NOTED; n++) {
@@ -435,7 +437,7 @@ static void notes_all(void)
     }
 }
 
-/* How many entries a pass queues. Those of the one before are finished. */
+/* The number of entries that a pass queues. Those of the previous pass are finished. */
 static uint64_t queued_next(void)
 {
     derrimas_finalizers_entry entry;
@@ -445,8 +447,8 @@ static uint64_t queued_next(void)
     return collect(&all, &finalizers).picked;
 }
 
-/* What becomes of a graph in three passes, of which the last two find nothing reachable: entries and links. So many allocations are granted before one is refused,
- * which comes while the graph is made. A shrink with memory may come before the passes. */
+/* The entries and links of a graph in three passes, where the last two find nothing reachable. So many allocations are granted before one is refused, which
+ * happens while the graph is made. A shrink with memory may come before the passes. */
 static uint64_t left_with(long granted, bool notes_again)
 {
     derrimas_finalizers_counts counts;
@@ -471,8 +473,8 @@ static uint64_t left_with(long granted, bool notes_again)
     return picked + 1000000000 * (counts.short_links + 1000 * counts.long_links);
 }
 
-/* Whichever allocation is refused while a graph is made, passes do the same. Where there was no memory for a region they ask about each object or word, until a
- * shrink has some. */
+/* Whichever allocation is refused while a graph is made, passes do the same. If there was no memory for a region they ask about single objects or words, until
+ * a shrink gets memory for it. */
 static void refused_regions(void)
 {
     uint64_t by_regions = 0, by_objects = 0, by_words = 0, wanted, least;
@@ -513,7 +515,7 @@ static void fill(void)
     }
 }
 
-/* All other calls ask for none, and give none back; a moved link may ask for its word's region. */
+/* All other calls allocate and free nothing, except that moving a link may request memory for its word's region. */
 static void others(void)
 {
     derrimas_finalizers_entry entry;
@@ -549,7 +551,7 @@ static void others(void)
     closes();
 }
 
-/* How many unfinished entries have an object. */
+/* The number of unfinished entries that have an object. */
 static uint64_t with_object(void)
 {
     derrimas_finalizers_entry entry;
@@ -560,7 +562,7 @@ static uint64_t with_object(void)
     return count;
 }
 
-/* Calls that change nothing, while the memory can't be written to. */
+/* Calls that change nothing, while the memory is write-protected. */
 static void reads(void)
 {
     derrimas_finalizers_registration_at registrations[70];
@@ -590,7 +592,7 @@ static void reads(void)
     IS(mprotect(first.memory, ROOM, PROT_READ | PROT_WRITE), 0);
 }
 
-/* Such calls before a pass, in it and after it, and with entries that are held. */
+/* Such calls before, during and after a pass, and with held entries. */
 static void constant(void)
 {
     derrimas_finalizers_entry entry;
@@ -641,7 +643,7 @@ static void grows(derrimas_finalizers *it, uint64_t object)
     OK(derrimas_finalizers_add_cleanup(it, object, DERRIMAS_FINALIZERS_LONG, object, 0, 0, NULL));
 }
 
-/* Call by call in turn: each takes and gives back its own memory. */
+/* Alternating call by call: each handle allocates and frees its own memory. */
 static void in_turn(void)
 {
     opens_both();
@@ -654,7 +656,7 @@ static void in_turn(void)
     closes_both();
 }
 
-/* An allocator makes calls on the other handle. */
+/* An allocator that makes calls on the other handle. */
 static void call_other(void)
 {
     static uint64_t object;
@@ -676,7 +678,7 @@ static void nested(void)
     closes_both();
 }
 
-/* A thread for each, at the same time. Not by check.h, whose counts are one thread's. */
+/* A thread for each, at the same time. check.h isn't used, since its counters are for one thread. */
 static void *grow_alone(void *handle)
 {
     derrimas_finalizers *it = handle;

@@ -1,4 +1,5 @@
-/* finalizers_stack: how much of its stack a thread uses for the calls of derrimas_finalizers.h, beside one that makes none: at most 16 KB, however much there is. */
+/* finalizers_stack: the stack that a thread uses for the calls of derrimas_finalizers.h, compared with a thread that makes no call: at most 16 KB, for any
+ * number of objects. */
 #define _DEFAULT_SOURCE
 #include "check.h"
 #include "derrimas_finalizers.h"
@@ -91,7 +92,7 @@ static void *tells(void *at)
 
 static void *nothing(void *at) { return at; }
 
-/* How many bytes of its stack a thread uses that runs this. */
+/* The number of bytes of its stack that a thread uses while it runs this procedure. */
 static size_t used_by(void *(*run)(void *at))
 {
     const derrimas_finalizers_options options = {sizeof options, {0}, true, true};

@@ -1,5 +1,5 @@
-/* Two threads and one lock: each registers objects, collects, takes entries, runs what they say without the lock, and finishes them. A third asks without the
- * lock whether entries wait. At last all read at once what stands.
+/* Two threads and one lock: each registers objects, collects, takes entries, runs their procedures without the lock, and finishes them. A third reads without
+ * the lock whether entries wait. In the end all threads read the tables at once.
  */
 #include "finalizers_host.h"
 #include <pthread.h>
@@ -9,14 +9,14 @@ enum { THREADS = 2, ROUNDS = 3 };
 static pthread_mutex_t lock = PTHREAD_MUTEX_INITIALIZER;
 static derrimas_finalizers finalizers;
 static host all;
-static unsigned ran[OBJECTS]; /* written by whoever has the object's entry */
-static uint64_t wrong;        /* under the lock */
+static unsigned ran[OBJECTS]; /* written by the thread that has the object's entry */
+static uint64_t wrong;        /* guarded by the lock */
 static bool is_over;          /* atomic */
 
 static void wants(bool right) { wrong += !right; }
 static bool accepts(derrimas_finalizers_code code) { return code == DERRIMAS_FINALIZERS_OK; }
 
-/* Runs one entry, if one waits. */
+/* Runs one entry, if one is waiting. */
 static bool run_one(void)
 {
     derrimas_finalizers_entry entry;
@@ -36,7 +36,7 @@ static bool run_one(void)
     return true;
 }
 
-/* Registers the object, which its maker drops at once or keeps for a while, with a link to it from the one before. */
+/* Registers an object, which its maker drops at once or retains for a while, with a link to it from the one before. */
 static void make(uint64_t at)
 {
     object *it = &all.objects[at], *other = &all.objects[(at + OBJECTS - THREADS) % OBJECTS];
@@ -73,7 +73,7 @@ static void *look(void *seen)
     return NULL;
 }
 
-/* Reads what stands, while others do so too. */
+/* Reads the tables, while others do so too. */
 static void *read_all(void *sum)
 {
     derrimas_finalizers_registration_at registrations[33];
@@ -110,7 +110,7 @@ static void round_of(unsigned number)
     in_threads(work, (void *[]){(void *)0, (void *)1});
     in_threads(read_all, (void *[]){sums[0], sums[1]});
     IS(sums[0][0] == sums[0][1] && sums[1][0] == sums[0][0] && sums[1][1] == sums[0][0], true);
-    memset(&all, 0, sizeof all); /* nothing is kept any more */
+    memset(&all, 0, sizeof all); /* nothing is retained any more */
     while (collect(&all, &finalizers).picked > 0)
         in_threads(work, (void *[]){(void *)(uintptr_t)OBJECTS, (void *)(uintptr_t)OBJECTS});
     __atomic_store_n(&is_over, true, __ATOMIC_RELAXED);

@@ -1,6 +1,6 @@
-/* derrimas_finalizers_why and .._stuck: refusals, worked rows, and small random graphs, with ephemerons. The rows and the graphs are compared with a plain reading of
- * the header, which shares no code with the library: the reason, and of graphs the path step by step, what waits for a ring, and what a pass then queues. Memory is
- * refused at each allocation in turn. The argument is how many graphs; else 20,000.
+/* derrimas_finalizers_why and .._stuck: refusals, worked rows, and small random graphs, with ephemerons. The rows and the graphs are compared with a plain
+ * reading of the header, which shares no code with the library: the reason; for graphs also the path step by step, the objects that wait for a ring, and what a
+ * pass then queues. Memory is refused at each allocation in turn. The argument is the number of graphs; the default is 20,000.
  */
 #include "check.h"
 #include "derrimas_finalizers.h"
@@ -9,10 +9,10 @@
 
 enum { MOST = 8, WORDS = 4, STRIDE = 8, BASE = 65536, ROOTS = 3, ALL = 6, GRAPHS = 20000 };
 
-/* A heap of a few objects, which marks for a pass. Words are numbered in one of three ways. */
+/* A heap of a few objects, which can mark for a pass. Words are numbered in one of three ways. */
 typedef struct heap {
     unsigned count, words[MOST];
-    unsigned child[MOST][WORDS]; /* 1 more than the object's index; 0 is none */
+    unsigned child[MOST][WORDS]; /* the object's index plus 1; 0 is none */
     unsigned roots[ROOTS];       /* the same */
     bool marked[MOST];
     unsigned way;
@@ -75,7 +75,7 @@ static derrimas_finalizers_code ask_stuck(heap *it)
 
 /* ---- a pass over the heap */
 
-/* The key of the ephemeron that the word is, by its index, and whether it is one. */
+/* The index of the key, if the word is an ephemeron, and whether it is one. */
 static bool is_ephemeron(const heap *it, unsigned object, unsigned word, derrimas_finalizers_link_kind *kind, unsigned *key)
 {
     uint64_t found = 0;
@@ -86,7 +86,7 @@ static bool is_ephemeron(const heap *it, unsigned object, unsigned word, derrima
     return is;
 }
 
-/* The object to which a word points, if it is a word by which the heap marks, with 1 more; else 0. */
+/* The index plus 1 of the object to which a word points, if the heap marks through the word; else 0. */
 static unsigned scanned_child(const heap *it, unsigned object, unsigned word)
 {
     derrimas_finalizers_link_kind kind;
@@ -119,7 +119,7 @@ static void mark_children(void *data, uint64_t object, bool but_itself)
             mark_on(it, scanned_child(it, index, n) - 1);
 }
 
-/* The object and the place of a word by its number. */
+/* The object and the place of the word with a number. */
 static void place_of(const heap *it, uint64_t word, unsigned *object, unsigned *place)
 {
     const uint64_t plain = it->way == 2 ? ~word : word & ((UINT64_C(1) << 48) - 1);
@@ -156,7 +156,7 @@ static bool mark_value(void *data, uint64_t word)
     return true;
 }
 
-/* How many entries the pass queues. */
+/* The number of entries that the pass queues. */
 static uint64_t collect(heap *it)
 {
     static const derrimas_host host = {is_marked, mark_children, mark, mark_alone, clear, holder_is_marked, NULL, NULL, mark_value};
@@ -193,10 +193,10 @@ static void registers(heap *it, unsigned object, derrimas_finalizers_kind kind, 
     OK(derrimas_finalizers_register(&it->finalizers, number(object), kind, 7, cd, 0, NULL, NULL));
 }
 
-/* What the plain reading below says. */
+/* The result of the plain reading below. */
 static derrimas_why_reason read_reason(const heap *it, unsigned object);
 
-/* The reason, which is that of the plain reading too, and the path, by indices. */
+/* The reason, which has to be that of the plain reading too, and the path, by indices. */
 #define WHY(it, object, wanted, ...)                                                                                   \
     do {                                                                                                               \
         const unsigned steps[] = {__VA_ARGS__ 99};                                                                     \
@@ -208,7 +208,7 @@ static derrimas_why_reason read_reason(const heap *it, unsigned object);
             IS(path[n], number(steps[n]));                                                                             \
     } while (0)
 
-/* What waits for a ring, by indices: registered in this order, they are so listed. */
+/* The objects that wait for a ring, by indices. They are listed in the order of registration. */
 #define STUCK(it, ...)                                                                                                 \
     do {                                                                                                               \
         const unsigned objects[] = {__VA_ARGS__ 99};                                                                   \
@@ -275,7 +275,7 @@ static void ring_of_one(void)
     derrimas_finalizers_destroy(&it.finalizers);
 }
 
-/* A ring of two, one of which is a no-order object. */
+/* A ring of two objects, one of kind NO_ORDER. */
 static void ring_of_two(void)
 {
     heap it;
@@ -293,7 +293,7 @@ static void ring_of_two(void)
     derrimas_finalizers_destroy(&it.finalizers);
 }
 
-/* 0 to 1, 1 to itself and to 2, 2 to 3, 4 to 3: 0 and 4 are ready, and what the ring leads to waits for it. */
+/* 0 points to 1, 1 to itself and to 2, 2 to 3, and 4 to 3: 0 and 4 are ready, and what the ring reaches waits for it. */
 static void behind_a_ring(void)
 {
     uint64_t few[2] = {1, 1};
@@ -318,7 +318,7 @@ static void behind_a_ring(void)
     IS(few[1], 1);
     OK(derrimas_finalizers_stuck(&it.finalizers, &paths, &it, NULL, 0, &count));
     IS(count, 2);
-    registers(&it, 1, DERRIMAS_FINALIZERS_IGNORE_SELF, 0); /* no ring any more: 3 waits for what comes before it */
+    registers(&it, 1, DERRIMAS_FINALIZERS_IGNORE_SELF, 0); /* no longer a ring: 3 waits for what comes before it */
     WHY(&it, 1, DERRIMAS_WHY_WAITS, 0, 1, );
     STUCK(&it, );
     derrimas_finalizers_destroy(&it.finalizers);
@@ -341,13 +341,13 @@ static void data_of(void)
     OK(derrimas_finalizers_add_cleanup(&it.finalizers, number(1), DERRIMAS_FINALIZERS_LONG, 7, number(0), 0, &cleanup));
     WHY(&it, 0, DERRIMAS_WHY_FOUND, 0, );
     FOUND_BY(DERRIMAS_WHY_CLEANUP_DATA, cleanup);
-    WHY(&it, 1, DERRIMAS_WHY_UNREGISTERED, ); /* no root reaches it, and the cleanup alone is its */
+    WHY(&it, 1, DERRIMAS_WHY_UNREGISTERED, ); /* no root reaches it, and it has only the cleanup */
     it.roots[2] = 2;
     WHY(&it, 1, DERRIMAS_WHY_FOUND, 1, );
     FOUND_BY(DERRIMAS_WHY_HOST_ROOT, 2);
     it.roots[2] = 0;
     OK(derrimas_finalizers_cancel(&it.finalizers, cleanup, NULL));
-    registers(&it, 1, DERRIMAS_FINALIZERS_NO_ORDER, number(0)); /* its entry holds its data */
+    registers(&it, 1, DERRIMAS_FINALIZERS_NO_ORDER, number(0)); /* its entry retains its data */
     OK(derrimas_finalizers_queue_all(&it.finalizers, NULL));
     registers(&it, 0, DERRIMAS_FINALIZERS_NORMAL, 0);
     WHY(&it, 0, DERRIMAS_WHY_FOUND, 0, );
@@ -370,7 +370,7 @@ static void held_data(void)
     derrimas_finalizers_destroy(&it.finalizers);
 }
 
-/* A short link at the word that closes a ring cuts it, in whichever way the word is numbered. */
+/* A short link at the word that closes a ring breaks the ring, however the word is numbered. */
 static void cut(unsigned way)
 {
     heap it;
@@ -402,7 +402,7 @@ static void kinds(void)
     registers(&it, 1, DERRIMAS_FINALIZERS_NORMAL, 0);
     WHY(&it, 0, DERRIMAS_WHY_READY, );
     WHY(&it, 1, DERRIMAS_WHY_READY, );
-    registers(&it, 1, DERRIMAS_FINALIZERS_UNREACHABLE, 0); /* words of the other count towards it */
+    registers(&it, 1, DERRIMAS_FINALIZERS_UNREACHABLE, 0); /* words of the other object count towards it */
     WHY(&it, 1, DERRIMAS_WHY_WAITS, 0, 1, );
     registers(&it, 1, DERRIMAS_FINALIZERS_NORMAL, 0);
     collects(&it, 2);
@@ -429,15 +429,15 @@ static void values(unsigned way)
     registers(&it, 2, DERRIMAS_FINALIZERS_NORMAL, 0);
     WHY(&it, 2, DERRIMAS_WHY_FOUND, 0, 2, );
     keyed(&it, DERRIMAS_FINALIZERS_SHORT, 0, 1, 1);
-    WHY(&it, 2, DERRIMAS_WHY_FOUND, 0, 2, ); /* by the key and the object that has the word */
+    WHY(&it, 2, DERRIMAS_WHY_FOUND, 0, 2, ); /* by the key and by the object that has the word */
     it.roots[1] = 0;
     WHY(&it, 2, DERRIMAS_WHY_READY, );
     registers(&it, 1, DERRIMAS_FINALIZERS_NORMAL, 0);
     it.child[2][0] = 2;
-    WHY(&it, 1, DERRIMAS_WHY_WAITS, 2, 1, ); /* a value that reaches its key doesn't retain it: it comes first */
+    WHY(&it, 1, DERRIMAS_WHY_WAITS, 2, 1, ); /* a value that reaches its key doesn't retain it: the value is ready first */
     WHY(&it, 2, DERRIMAS_WHY_READY, );
     STUCK(&it, );
-    keyed(&it, DERRIMAS_FINALIZERS_LONG, 0, 1, 1); /* its key is retained with what the value reaches */
+    keyed(&it, DERRIMAS_FINALIZERS_LONG, 0, 1, 1); /* its key is retained together with what the value reaches */
     WHY(&it, 2, DERRIMAS_WHY_RING, 2, 1, 2, );
     WHY(&it, 1, DERRIMAS_WHY_WAITS, 2, 1, );
     STUCK(&it, 2, 1, );
@@ -447,7 +447,7 @@ static void values(unsigned way)
     derrimas_finalizers_destroy(&it.finalizers);
 }
 
-/* One object reaches the key 2, and another the object 3 that has the ephemeron, whose value is 4. */
+/* One object reaches the key 2, and another the object 3, which has the ephemeron. The value is 4. */
 static void two_hold_a_value(void)
 {
     heap it;
@@ -462,7 +462,7 @@ static void two_hold_a_value(void)
     WHY(&it, 4, DERRIMAS_WHY_READY, );
     registers(&it, 1, DERRIMAS_FINALIZERS_NORMAL, 0);
     WHY(&it, 4, DERRIMAS_WHY_WAITS, 1, 3, 4, );
-    it.child[1][0] = 0; /* the value itself reaches 3: it waits for the other one, and is on no ring */
+    it.child[1][0] = 0; /* the value itself reaches 3: it waits for the other object, and isn't on a ring */
     it.child[4][0] = 4;
     WHY(&it, 4, DERRIMAS_WHY_WAITS, 0, 2, 4, );
     STUCK(&it, );
@@ -472,7 +472,7 @@ static void two_hold_a_value(void)
     derrimas_finalizers_destroy(&it.finalizers);
 }
 
-/* Toward an object of kind UNREACHABLE another one counts itself, as a key. */
+/* An object counts itself, as a key, towards an object of kind UNREACHABLE. */
 static void key_of_unreachable(void)
 {
     heap it;
@@ -513,10 +513,10 @@ static void word_elsewhere(void)
 static bool child_next(void *data, uint64_t object, uint64_t n, uint64_t *word, uint64_t *child)
 {
     (void)data, (void)word, (void)child;
-    return object == BASE && n < 9; /* more words than there are numbers up to the next object */
+    return object == BASE && n < 9; /* more words than there are numbers before the next object */
 }
 
-/* The first object's word points into the object itself, behind its number. */
+/* The first object's word points to an interior address of the object itself. */
 static bool child_within(void *data, uint64_t object, uint64_t n, uint64_t *word, uint64_t *child)
 {
     (void)data, (void)word;
@@ -560,7 +560,7 @@ static void refusals(void)
     IS(strcmp(derrimas_finalizers_reason_name((derrimas_why_reason)6), "?"), 0);
 }
 
-/* ---- memory: an allocator that has none from some call on */
+/* ---- memory: an allocator that fails from a certain call on */
 
 static uint64_t blocks, calls, granted = UINT64_MAX;
 
@@ -591,7 +591,7 @@ static void release(void *data, void *memory)
 
 static const derrimas_finalizers_options counted = {sizeof counted, {allocate, reallocate, release, NULL}, false, false};
 
-/* Asks with as much memory as it takes, and before with less each time. */
+/* Makes the query with increasing memory, until there is enough. */
 static void ask_with_little(heap *it, unsigned object)
 {
     const uint64_t before = blocks;
@@ -610,7 +610,7 @@ static void ask_with_little(heap *it, unsigned object)
     OK(code);
 }
 
-/* The same of what waits for a ring. */
+/* The same for the objects that wait for a ring. */
 static void ask_stuck_with_little(heap *it)
 {
     const uint64_t before = blocks;
@@ -629,7 +629,7 @@ static void ask_stuck_with_little(heap *it)
     OK(code);
 }
 
-/* Where nothing else is registered, the first memory for what is to be listed is for a cleanup's data, a link's target, an ephemeron's key or an entry. */
+/* If nothing else is registered, the first allocation of the worklist is for a cleanup's data, a link's target, an ephemeron's key or an entry. */
 static void little_memory(void)
 {
     derrimas_finalizers_entry entry;
@@ -664,14 +664,14 @@ typedef struct row {
 } row;
 
 typedef struct reading {
-    bool found[MOST], child[MOST][MOST]; /* child: by each word that isn't cut */
+    bool found[MOST], child[MOST][MOST]; /* edges by each word that isn't cleared */
     bool is_registered[MOST];
     derrimas_finalizers_kind kind[MOST];
     row rows[MOST * WORDS]; /* the ephemerons that aren't cleared */
     unsigned row_count;
 } reading;
 
-/* Adds what the set reaches. Keys and objects with ephemerons may be in the other set, too, which may be the same. */
+/* Adds what the set reaches. Keys and objects with ephemerons may also be in the other set, which may be the same set. */
 static void grow(const reading *r, bool set[MOST], const bool other[MOST])
 {
     for (bool is_more = true; is_more;) {
@@ -750,7 +750,7 @@ static reading read_heap(const heap *it)
 
 static bool is_lost(const reading *r, unsigned object) { return r->is_registered[object] && !r->found[object]; }
 
-/* A first step of an object counts by its kind. */
+/* Whether a first step of an object counts depends on its kind. */
 static bool is_first(const reading *r, unsigned from, unsigned to)
 {
     return r->child[from][to] && r->kind[from] != DERRIMAS_FINALIZERS_NO_ORDER && !(r->kind[from] == DERRIMAS_FINALIZERS_IGNORE_SELF && to == from);
@@ -762,7 +762,7 @@ static void add_firsts(const reading *r, unsigned from, bool set[MOST])
         set[to] |= is_first(r, from, to);
 }
 
-/* What an object holds by its first steps, with what was found. */
+/* What an object retains by its first steps, together with what was found. */
 static void held_by(const reading *r, unsigned from, bool set[MOST])
 {
     memset(set, 0, MOST * sizeof *set);
@@ -770,7 +770,7 @@ static void held_by(const reading *r, unsigned from, bool set[MOST])
     grow(r, set, r->found);
 }
 
-/* What all lost objects hold together toward an object: by their first steps, and by themselves, if this one alone is of kind UNREACHABLE. */
+/* What all lost objects together retain towards an object: by their first steps, and by themselves if it has the kind UNREACHABLE and they don't. */
 static void held_toward(const reading *r, unsigned object, bool set[MOST])
 {
     const bool is_late = r->kind[object] == DERRIMAS_FINALIZERS_UNREACHABLE;
@@ -838,7 +838,7 @@ static derrimas_why_reason read_reason(const heap *it, unsigned object)
     return reason_of(&r, it, object);
 }
 
-/* What never becomes ready where there are no ephemerons, however often what is ready goes; where there are, what the objects on rings hold together. */
+/* Without ephemerons: the objects that never become ready, however often ready ones are removed. With ephemerons: what the objects on rings retain. */
 static void read_stuck(const reading *r, const heap *it, bool left[MOST])
 {
     bool is_smaller = r->row_count == 0, behind[MOST] = {false}, held[MOST];
@@ -868,7 +868,7 @@ static void read_stuck(const reading *r, const heap *it, bool left[MOST])
     }
 }
 
-/* The word of the root that the answer names. */
+/* The word of the root that the result names. */
 static uint64_t root_word(const heap *it)
 {
     derrimas_finalizers_registration_at some[64];
@@ -893,7 +893,7 @@ static uint64_t root_word(const heap *it)
     }
 }
 
-/* A step goes by a word, or to the value of an ephemeron, from its key or from the object that has its word, where both are held. */
+/* A step follows a word, or leads to the value of an ephemeron from its key or from the object that has its word, if both are retained. */
 static bool is_step(const reading *r, const bool held[MOST], unsigned from, unsigned to)
 {
     if (r->child[from][to])
@@ -907,7 +907,8 @@ static bool is_step(const reading *r, const bool held[MOST], unsigned from, unsi
     return false;
 }
 
-/* The path goes by words and values: for what is reachable by all of them, and else by those that aren't cleared, first by a step that counts. */
+/* The path follows words and values. For a reachable object it may use all of them, otherwise those that aren't cleared, and then its first step is one that
+ * counts. */
 static bool is_right_path(const reading *r, const heap *it, unsigned object)
 {
     const bool is_found = answer.reason == DERRIMAS_WHY_FOUND;
@@ -941,7 +942,7 @@ static bool is_registered(const heap *it, unsigned object)
     return derrimas_finalizers_registration(&it->finalizers, number(object), &registration) == DERRIMAS_FINALIZERS_OK;
 }
 
-/* ---- graphs of chance */
+/* ---- random graphs */
 
 static uint64_t chance;
 
@@ -991,9 +992,9 @@ static void make_graph(heap *it)
         it->roots[n] = below(3) == 0 ? 1 + below(it->count) : 0;
 }
 
-static unsigned reasons[ALL], stuck, with_rows, by_rows; /* graphs that have ephemerons, and answers that are others without them */
+static unsigned reasons[ALL], stuck, with_rows, by_rows; /* graphs that have ephemerons, and results that would differ without them */
 
-/* Just those that never become ready are listed, in the order of the registrations. */
+/* Exactly those that never become ready are listed, in the order of registration. */
 static void look_for_stuck(heap *it, const reading *r)
 {
     derrimas_finalizers_registration_at some[64];
@@ -1014,7 +1015,7 @@ static void look_for_stuck(heap *it, const reading *r)
     stuck += listed > 0;
 }
 
-/* Asks for each object, and runs a pass, which queues just those that are ready. */
+/* Makes the query for each object, and then a pass, which queues exactly those that are ready. */
 static void look(heap *it)
 {
     const reading r = read_heap(it);

@@ -1,12 +1,12 @@
-/* Passes of derrimas_finalizers.h over registrations and cleanups from a number on: beside whole passes over the same graphs of chance, whose old objects are marked; what
- * happens where one isn't; each refusal. All of this with the options `marks` and `live` too.
+/* Passes of derrimas_finalizers.h over the registrations and cleanups from a number on, beside whole passes over the same random graphs, whose old objects are
+ * marked; the result if one isn't; each refusal. Everything is also tested with the options `marks` and `live`.
  */
 #include "finalizers_host.h"
 #include <stdlib.h>
 
 enum { SOME = 60, OLD = 30, GRAPHS = 1000 };
 
-/* Two heaps with the same graph: one of young passes, one of whole ones. */
+/* Two heaps with the same graph: one for young passes, one for whole ones. */
 static struct world {
     derrimas_finalizers finalizers;
     host all;
@@ -37,7 +37,7 @@ static uint64_t next_of(const struct world *it)
     return number;
 }
 
-/* Words of chance, roots, and registrations, cleanups, links and ephemerons of the objects from the first up to the last. */
+/* Random words and roots, and registrations, cleanups, links and ephemerons of the objects from the first up to the last. */
 static void fills(struct world *it, size_t first, size_t last, bool are_roots)
 {
     for (size_t n = first; n < last; n++) {
@@ -52,7 +52,7 @@ static void fills(struct world *it, size_t first, size_t last, bool are_roots)
             OK(derrimas_finalizers_add_cleanup(&it->finalizers, number, (derrimas_finalizers_when)chance(2), n, 0, (uint8_t)chance(3), NULL));
         IS(next_of(it) >= before && next_of(it) <= before + 2, true);
         o->words[1] = number_of(&it->all.objects[chance(SOME)]);
-        o->keyed[1] = true; /* the word of a link isn't followed */
+        o->keyed[1] = true; /* the word of a link isn't scanned */
         OK(derrimas_finalizers_link(&it->finalizers, (derrimas_finalizers_link_kind)chance(2), word_of(o, 1), o->words[1], NULL));
         o->words[2] = number_of(&it->all.objects[chance(SOME)]);
         o->keyed[2] = true;
@@ -60,7 +60,7 @@ static void fills(struct world *it, size_t first, size_t last, bool are_roots)
     }
 }
 
-/* The graph of a seed. Returns the number of the first young registration or cleanup. */
+/* Makes the graph of a seed. Returns the number of the first young registration or cleanup. */
 static uint64_t graph(struct world *it, uint64_t of)
 {
     uint64_t from;
@@ -75,7 +75,7 @@ static uint64_t graph(struct world *it, uint64_t of)
 
 static size_t index_of(const struct world *it, uint64_t number) { return number ? (size_t)(number - number_of(it->all.objects)) / sizeof(object) : SOME; }
 
-/* What both passes left is the same. */
+/* The state after both passes is the same. */
 static void same_worlds(void)
 {
     derrimas_finalizers_entry a, b;
@@ -135,7 +135,7 @@ static bool queues(uint64_t from, uint64_t proc)
     return found;
 }
 
-/* One number more than that of a registration or a cleanup leaves it, and the number itself doesn't. */
+/* A pass from the number after that of a registration or a cleanup leaves it out, and a pass from the number itself doesn't. */
 static void each_number(void)
 {
     opens(&young);

@@ -1,4 +1,4 @@
-/* The structs of derrimas.h lie as the library has them: by their sizes and offsets, and by the numbers with which derrimas_sample fills them. */
+/* The structs of derrimas.h have the layout of the library: their sizes and offsets, and the numbers with which derrimas_sample fills them, are checked. */
 #include "check.h"
 
 _Static_assert(sizeof(derrimas_code) == 4 && sizeof(derrimas_kind) == 4, "derrimas_code");
@@ -22,7 +22,7 @@ _Static_assert(sizeof(derrimas_linked) == 16 && offsetof(derrimas_linked, target
 _Static_assert(sizeof(derrimas_counts) == 56 && offsetof(derrimas_counts, noted) == 48, "derrimas_counts");
 _Static_assert(sizeof(derrimas_samples) == 16 + 16 + 24 + 40 + 24 + 56 + 32 + 40 + 16 + 56, "derrimas_samples");
 
-/* The fields of a struct of numbers, which are to be 1, 2, 3 and so on. */
+/* The fields of a struct of numbers, which have to be 1, 2, 3 and so on. */
 static bool counts_up(const uint64_t *fields, size_t count)
 {
     for (size_t n = 0; n < count; n++)

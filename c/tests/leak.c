@@ -1,4 +1,4 @@
-/* A world that isn't destroyed: c/run --valgrind wants to be told of it, so that it's known to look. */
+/* A world that isn't destroyed: c/run --valgrind checks that valgrind reports it. */
 #include "derrimas.h"
 
 int main(void)

@@ -1,7 +1,7 @@
-/* Want of memory: malloc and realloc are refused, one after another, and each call that answers DERRIMAS_NO_MEMORY has changed nothing.
+/* Out of memory: malloc and realloc are refused, one call after another, and each call that returns DERRIMAS_NO_MEMORY has changed nothing.
  *
- * Linked with --wrap=malloc,--wrap=realloc,--wrap=calloc,--wrap=free, so that the library's allocations come here. They are counted, too: derrimas_forget has to
- * give memory back.
+ * It is linked with --wrap=malloc,--wrap=realloc,--wrap=calloc,--wrap=free, so the library's allocations come here. They are also counted: derrimas_forget has
+ * to free memory.
  */
 #include "check.h"
 #include <malloc.h>
@@ -16,7 +16,7 @@ void *__wrap_calloc(size_t count, size_t size);
 void *__wrap_realloc(void *at, size_t size);
 void __wrap_free(void *at);
 
-/* How many allocations are granted yet; none is refused where it is negative. */
+/* The number of allocations still granted; if negative, none is refused. */
 static long granted = -1;
 
 static bool is_refused(void)
@@ -29,7 +29,7 @@ static bool is_refused(void)
     return false;
 }
 
-/* How many bytes are in use. */
+/* The bytes in use. */
 static size_t in_use;
 
 static void *counted(void *at)
@@ -61,7 +61,7 @@ void __wrap_free(void *at)
 static derrimas_world world;
 static const derrimas_slot A = {0, 0};
 
-/* Opens a world with fewer allocations than it wants. Returns how many it wants. */
+/* Opens a world with fewer allocations than it needs. Returns how many it needs. */
 static long opening(void)
 {
     for (long few = 0;; few++) {
@@ -76,8 +76,8 @@ static long opening(void)
     }
 }
 
-/* Links the object in A to itself, and moves the link to its second word: asks for each without memory, and if that is refused, with it. Returns how
- * many refusals there were. */
+/* Links the object in A to itself, and moves the link to its second word. Makes each call without memory, and repeats it with memory if it is refused. Returns
+ * the number of refusals. */
 static unsigned linking(derrimas_links kind, uint64_t address)
 {
     unsigned refusals = 0;
@@ -115,7 +115,7 @@ static unsigned linking(derrimas_links kind, uint64_t address)
     return refusals;
 }
 
-/* Makes, registers and links objects until memory was refused so often, and asks again each time. Returns how many it made. */
+/* Makes, registers and links objects until memory was refused so often, and repeats each refused call. Returns the number of objects. */
 static uint64_t filling(unsigned *refusals)
 {
     derrimas_made made;
@@ -125,7 +125,7 @@ static uint64_t filling(unsigned *refusals)
     while (*refusals < 20 && objects < 1500) {
         derrimas_code code;
         granted = 0;
-        REFUSED(DERRIMAS_BAD_SLOT, made, derrimas_alloc(&world, derrimas_at(1, 0), 1, DERRIMAS_ATOMIC, &made)); /* other causes come first */
+        REFUSED(DERRIMAS_BAD_SLOT, made, derrimas_alloc(&world, derrimas_at(1, 0), 1, DERRIMAS_ATOMIC, &made)); /* other causes are reported first */
         code = derrimas_alloc(&world, A, 2, DERRIMAS_ATOMIC, &made);
         if (code == DERRIMAS_NO_MEMORY) {
             granted = -1;
@@ -144,7 +144,7 @@ static uint64_t filling(unsigned *refusals)
             code = derrimas_register(&world, A, DERRIMAS_NORMAL, objects, 0, 0, &registered);
         }
         OK(code);
-        IS(registered.number, objects); /* a refused call takes no number */
+        IS(registered.number, objects); /* a refused call uses no number */
         *refusals += linking(DERRIMAS_SHORT, made.address);
         *refusals += linking(DERRIMAS_LONG, made.address);
         objects++;
@@ -152,7 +152,7 @@ static uint64_t filling(unsigned *refusals)
     return objects;
 }
 
-/* What needs no memory: a collection of all that, its queue, and the end. */
+/* What needs no memory: a collection of all these objects, its queue, and the end. */
 static void without_memory(uint64_t objects)
 {
     derrimas_passed passed;
@@ -172,8 +172,8 @@ static void without_memory(uint64_t objects)
     granted = -1;
 }
 
-/* Opens a line with fewer allocations than it wants, hands its seat out, and publishes entries, each first without memory. Returns how many
- * of these were refused. */
+/* Opens a line with fewer allocations than it needs, opens its seat, and publishes entries, each at first without memory. Returns how many of these were
+ * refused. */
 static unsigned publishing(void)
 {
     derrimas_line line = {0};
@@ -216,7 +216,7 @@ static unsigned publishing(void)
     return refusals;
 }
 
-/* Queues as many entries as there are objects, and finishes them. */
+/* Queues an entry for each object, and finishes the entries. */
 static void finishing(uint64_t objects)
 {
     derrimas_made made;
@@ -241,8 +241,8 @@ static void finishing(uint64_t objects)
 
 enum { BLOCKS = 16, WORDS = 64 * BLOCKS, OBJECTS = 1000, ENTRY = 56 };
 
-/* A world forgets its finished entries after so many passes. It gives back the memory of all entries but that of the next pass, which queues one for each word at most,
- * and a sixteenth. So no more is in use then, however many entries there were. */
+/* A world forgets its finished entries after so many passes. It frees the memory of all entries except room for the next pass, which queues at most one for
+ * each word, and a sixteenth. So after that no more is in use, however many entries there were. */
 static void forgetting(void)
 {
     static const unsigned passes[] = {20, 100, 1, 50, 3, 100};

@@ -1,5 +1,5 @@
-/* finalizers.c over exports that only note what they are given, by noted.h. The handle's memory is taken by the calls that c/build names, so that an allocator
- * is called.
+/* finalizers.c over exports that only record their arguments, by noted.h. The handle's memory is allocated by the calls that c/build names, so that an
+ * allocator is called.
  */
 #include "noted.h"
 #include "derrimas_workers.h"
@@ -17,10 +17,10 @@
 
 enum { HANDLE = 24, RESERVED = 48 }; /* bytes of a handle's memory */
 
-/* The processor may be another. */
+/* The processor may be a different one. */
 void noted_finalizers_processor(void) { seen = NOT_SEEN; }
 
-/* Procedures of a test's: a host's answers to questions, an allocator's functions, and what is told of what happens. */
+/* Procedures of the tests: a host's answers to questions, the functions of an allocator, and the hooks of a trace. */
 void noted_question(const char *what, uint64_t object) { noted_procedure("host.%s" N, what, object); }
 void noted_children(uint64_t object, bool but_itself) { noted_procedure("host.mark_children" N " %d", object, but_itself); }
 void noted_memory(const char *what, uint64_t size) { noted_procedure("host.%s" N, what, size); }
@@ -28,7 +28,7 @@ void noted_finalizers_run(const derrimas_finalizers_entry *it) { noted_procedure
 void noted_queued(uint64_t pass, uint64_t count) { noted_procedure("host.queued" N N, pass, count); }
 void noted_finished(const derrimas_finalizers_entry *it) { noted_procedure("host.finished" ENTRY, OF_ENTRY(it)); }
 
-static bool asked_regions; /* the last question was about regions: the next call notes their words */
+static bool asked_regions; /* the last question was about regions: the next call records their words */
 
 uint8_t fz_machine_open(derrimas_finalizers *f, bool marks, bool live)
 {
@@ -138,7 +138,7 @@ uint8_t fz_machine_begin(derrimas_finalizers *f, uint64_t from)
 
 static derrimas_ask ask_of(uint64_t value) { return (derrimas_ask)(value % DERRIMAS_ASK_MARK_VALUE + 1); }
 
-/* A question about two objects, whose kind follows from the value. At the end of a pass what it did. */
+/* A question about two objects. Its kind depends on the value. At the end of a pass, its result. */
 uint8_t fz_machine_next(derrimas_finalizers *f, uint64_t answers, derrimas_question *question, derrimas_finalizers_passed *passed)
 {
     uint8_t code = asked_regions ? noted("next" N " marks" N N, answers, question->marks[0], question->marks[1]) : noted("next" N, answers);
@@ -268,7 +268,7 @@ uint8_t fz_snapshot_root(fz_snapshot *s, uint64_t word) { return (void)s, noted(
 uint8_t fz_snapshot_holder(fz_snapshot *s, uint64_t word, uint64_t *object) { return (void)s, FILLED(noted("snapshot_holder" N, word), object, uint64_t, V(0)); }
 uint8_t fz_snapshot_step(fz_snapshot *s, uint64_t index, uint64_t *object) { return (void)s, FILLED(noted("snapshot_step" N, index), object, uint64_t, V(10) + index); }
 
-/* The reason follows from the value; a path has two objects. */
+/* The reason depends on the value; a path has two objects. */
 uint8_t fz_machine_why(derrimas_finalizers *f, fz_snapshot *s, uint64_t object, fz_machine_told *told)
 {
     const bool is_queued = V(0) == DERRIMAS_WHY_QUEUED, is_found = V(0) == DERRIMAS_WHY_FOUND, has_path = V(0) >= 2 && V(0) <= 4;
@@ -278,14 +278,14 @@ uint8_t fz_machine_why(derrimas_finalizers *f, fz_snapshot *s, uint64_t object, 
     return noted_filled(noted("why" N, object), told, &it, sizeof it);
 }
 
-/* As many objects as the value says. */
+/* As many objects as the value. */
 uint8_t fz_machine_stuck(derrimas_finalizers *f, fz_snapshot *s, uint64_t *count) { return (void)f, (void)s, FILLED(noted("stuck"), count, uint64_t, V(0)); }
 
-/* ---- workers: no thread is started; to publish is to run an entry, as a worker does */
+/* ---- workers: no thread is started; to publish an entry is to run it, as a worker does */
 
 static derrimas_workers_options started_with;
 
-/* The lock of a test's. */
+/* The lock of a test. */
 void noted_lock(bool enters) { noted_procedure("host.%s", enters ? "lock" : "unlock"); }
 
 code derrimas_workers_start(derrimas_workers *workers, const derrimas_workers_options *options, uint64_t *started)

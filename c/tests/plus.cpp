@@ -93,7 +93,7 @@ static void finalizers_of_worlds()
     IS(refusal([&] { w.close(); }) == "Closed");
 }
 
-/* A procedure that throws: its entry stays held, and the next call goes on behind it. */
+/* A procedure that throws: its entry stays held, and the next call continues after it. */
 static void thrown()
 {
     world w(8);
@@ -122,7 +122,7 @@ static void thrown()
     IS(w.forgotten() == 0 && w.forget() == w.count().queued && w.forgotten() == w.count().queued && !w.queued(0));
 }
 
-/* The same out of a C procedure, through the library. */
+/* The same from a C procedure, through the library. */
 static void throws(derrimas_world *, const derrimas_entry *, void *) { throw std::runtime_error("through C"); }
 
 static void thrown_through_c()
@@ -186,7 +186,7 @@ static void moves_and_scopes()
     w = std::move(v);
     IS(w.next_object(0)->size == 64);
     world other(1);
-    w = std::move(other); /* its object is gone */
+    w = std::move(other); /* its object was reclaimed */
     IS(!w.next_object(0) && refusal([&] { other.count(); }) == "NoWorld");
 }
 
@@ -227,14 +227,14 @@ static void seats()
     IS(refusal([&] { kept.seat(); }) == "NoWorld" && refusal([&] { one.seat(); }) == "Empty");
 }
 
-/* ---- finalizers over a heap of this test's */
+/* ---- finalizers over this test's own heap */
 
-/* Objects 1 to 15 with two words each; object o has the words 16 * o and 16 * o + 1. Word 1000 lies outside. */
+/* Objects 1 to 15 with two words each; object o has the words 16 * o and 16 * o + 1. Word 1000 is outside of them. */
 struct small_heap {
     std::vector<std::uint64_t> words = std::vector<std::uint64_t>(16 * 16);
     std::vector<bool> marked = std::vector<bool>(16);
     std::uint64_t outside = 0;
-    unsigned until_throw = 1000; /* answers until one throws */
+    unsigned until_throw = 1000; /* the number of answers before one throws */
 
     bool is_marked(std::uint64_t object)
     {
@@ -263,7 +263,7 @@ struct small_heap {
 
 using fin = finalizers;
 
-/* Marks from no root but those of the finalizers, and makes a pass. */
+/* Marks from the finalizers' roots only, and makes a pass. */
 static fin::passed collected(fin &f, small_heap &heap)
 {
     heap.marked.assign(16, false);
@@ -295,7 +295,7 @@ static void passes_of_finalizers()
     IS(collected(f, heap).picked == 0 && heap.outside == 0 && f.count().long_links == 0 && f.count().passes == 4);
 }
 
-/* The same, whose objects are told apart by regions, each of which has one place with an object here; and so are words, each 16 of which are those of an object. */
+/* The same with regions: each region of objects has one place with an object here, and each 16 words are those of an object. */
 struct heap_of_regions : small_heap {
     unsigned words_asked = 0, live_asked = 0;
 
@@ -340,7 +340,7 @@ static void regions_of_finalizers()
     IS(moved.pass(heap).picked == 1 && moved.take()->obj == 7 && moved.count().registrations == 0);
 }
 
-/* Links from the words of objects 3 and 7, which both lead to object 5; and from object 8 to object 6. */
+/* Links from the words of objects 3 and 7, which both point to object 5; and from object 8 to object 6. */
 static void regions_of_words()
 {
     fin f({}, true, true);
@@ -401,7 +401,7 @@ static void calls_of_finalizers()
     IS(refusal([&] { f.register_object(0, fin::kind::normal, 0, 0); }) == "Zero");
 }
 
-/* Object 1 has a finalizer, and with it a cleanup of each moment; object 2 has a long one. */
+/* Object 1 has a finalizer and a cleanup of each moment; object 2 has a long one. */
 static void cleanups_of_finalizers()
 {
     fin f;
@@ -425,7 +425,7 @@ static void cleanups_of_finalizers()
     IS(refusal([&] { f.add_cleanup(0, fin::when::long_cleanup, 0, 0); }) == "Zero");
 }
 
-/* The words of an object behind its first two aren't followed, so they may be ephemerons. */
+/* The words of an object behind its first two aren't scanned, so they may be ephemerons. */
 struct heap_of_values : small_heap {
     bool mark_value(std::uint64_t word)
     {
@@ -435,7 +435,7 @@ struct heap_of_values : small_heap {
     }
 };
 
-/* Word 66 of object 4 is the row of the key 3, and its value, object 5, leads to the key. */
+/* Word 66 of object 4 is the row of the key 3. Its value, object 5, points to the key. */
 static void ephemerons_of_finalizers()
 {
     fin f;
@@ -466,7 +466,7 @@ static void ephemerons_of_finalizers()
     IS(f.pass(lacking).picked == 0 && refusal([&] { f.ephemeron(fin::link_kind::short_link, 67, 0); }) == "Zero");
 }
 
-/* A host that throws, and a scope that is left: the pass is abandoned, and the next one is whole. */
+/* A host that throws, and a scope that is left: the pass is abandoned, and the next one is a whole pass. */
 static void abandoned_passes()
 {
     fin f;
@@ -499,7 +499,7 @@ static void abandoned_passes()
     }
 }
 
-/* An allocator that counts what it has given, and has no memory where it is told so. */
+/* An allocator that counts its allocations, and fails when told to. */
 struct counting {
     long given = 0;
     bool refuses = false;
@@ -595,18 +595,18 @@ static void threads_of_finalizers()
     }
     IS(moved.wait() && sum == 5050 && moved.count().finished == 100);
     first = workers(f, lock, [&](const fin::entry &entry) { sum += entry.cd; }, 1);
-    moved = std::move(first); /* those that were there are stopped */
+    moved = std::move(first); /* the previous workers are stopped */
     IS(moved.started() == 1 && moved.count().published == 0 && refusal([&] { first.publish(); }) == "NotOpen");
     IS(moved.stop()->abandoned == 0 && refusal([&] { moved.wait(); }) == "NotOpen");
     IS(refusal([&] { workers none(f, lock, [](const fin::entry &) {}, 0); }) == "BadCount");
-    workers last(f, lock, [&](const fin::entry &) { sum++; }, 1); /* its end stops it */
-    std::lock_guard guard(lock); /* which is given back before */
+    workers last(f, lock, [&](const fin::entry &) { sum++; }, 1); /* its destructor stops it */
+    std::lock_guard guard(lock); /* which is freed before */
     f.register_object(1, fin::kind::normal, 0, 0);
     f.queue_all();
     last.publish();
 }
 
-/* A program that is run in a child of this process, and ends it by SIGABRT. */
+/* Runs a program in a child process, which ends by SIGABRT. */
 static bool is_aborted(void program())
 {
     int status = 0;

@@ -1,5 +1,5 @@
-/* What a runtime calls beside the model's calls: results that nobody wants, kinds that are none, numbers in fields, bases, registrations that have to be
- * made, objects that are made or collected for, scopes, texts, and all finalizers at the end.
+/* What a runtime calls in addition to the model's calls: with NULL for results, invalid kinds, numbers in fields, bases, registrations that have to succeed,
+ * objects that are allocated with a collection if needed, scopes, texts, and all finalizers at the end.
  */
 #include "check.h"
 #include <setjmp.h>
@@ -62,7 +62,7 @@ static void bad_kinds(void)
     derrimas_destroy(&w);
 }
 
-/* A number in each word of an object, by way of a slot that keeps its own word. */
+/* A number in each word of an object, by a slot whose own word stays the same. */
 static void writing(void)
 {
     derrimas_world w = {0};
@@ -95,7 +95,7 @@ static void writing(void)
     derrimas_destroy(&w);
 }
 
-/* Each word of two objects leads to its object, and no other word to any. */
+/* Each word of two objects belongs to its object, and no other word belongs to any. */
 static void bases(void)
 {
     derrimas_world w = {0};
@@ -121,7 +121,7 @@ static void bases(void)
     derrimas_destroy(&w);
 }
 
-/* A registration that has to be made, and the short calls of the three kinds. */
+/* A registration that has to succeed, and the short calls of the three kinds. */
 static void strict_registrations(void)
 {
     derrimas_world w = {0};
@@ -157,7 +157,7 @@ static void count_and_finish(derrimas_world *world, void *data)
         OK(derrimas_finish(world, &entry));
 }
 
-/* A heap of one block that is full of garbage, of what is alive, and of garbage with a cycle open. */
+/* A heap of one block that is full of garbage, of live objects, and of garbage with a cycle open. */
 static void made_or_collected(void)
 {
     derrimas_world w = {0};
@@ -186,7 +186,7 @@ static void made_or_collected(void)
     OK(derrimas_get(&w, B, &word));
     IS(word, 0);
     OK(derrimas_pause(&w, NULL));
-    OK(derrimas_alloc_or_collect(&w, B, 32, DERRIMAS_SCANNED, NULL, count_and_finish, &called)); /* the pause kept the object that was dropped in its cycle */
+    OK(derrimas_alloc_or_collect(&w, B, 32, DERRIMAS_SCANNED, NULL, count_and_finish, &called)); /* the pause retained the object dropped in its cycle */
     IS(called, 3);
     IS(derrimas_alloc_or_collect(&w, NO_SLOT, 1, DERRIMAS_SCANNED, NULL, count_and_finish, &called), DERRIMAS_BAD_SLOT);
     IS(called, 3);
@@ -194,7 +194,7 @@ static void made_or_collected(void)
     IS(derrimas_alloc_or_collect(&w, A, 1, DERRIMAS_SCANNED, NULL, NULL, NULL), DERRIMAS_NO_WORLD);
 }
 
-/* A scope within a scope: each slot is lent once, starts at 0, and lets go at the end. */
+/* Nested scopes: each slot is used by one scope, starts at 0, and is cleared at the end. */
 static void scopes(void)
 {
     derrimas_world w = {0};
@@ -250,7 +250,7 @@ static void texts(void)
 enum { ORDER = 6 };
 static uint64_t order[32], ran;
 
-/* Notes its client data; and what it is about: an object that stands, collections included, and an entry that is none of the queue. */
+/* Records its client data, and checks what it was called for: an object that is live, also after a collection, and an entry that isn't in the queue. */
 static void noted(derrimas_world *world, const derrimas_entry *e, void *data)
 {
     (void)data;
@@ -285,7 +285,7 @@ static void finalized_all(void)
     REFUSED(DERRIMAS_BAD_SLOT, count, derrimas_finalize_all(&w, NO_SLOT, procs, 2, NULL, &count));
     OK(derrimas_finalize_all(&w, A, procs, 2, NULL, &count));
     IS(count, 0);
-    for (uint64_t n = 0; n < ORDER; n++) { /* each leads to itself, and so would never be ready */
+    for (uint64_t n = 0; n < ORDER; n++) { /* each points to itself, and so would never be ready */
         OK(derrimas_alloc(&w, A, 1, DERRIMAS_SCANNED, NULL));
         OK(derrimas_store(&w, A, 0, A));
         OK(derrimas_register(&w, A, DERRIMAS_NORMAL, n == 2, n, ranks[n], NULL));
@@ -294,7 +294,7 @@ static void finalized_all(void)
     OK(derrimas_register_normal(&w, A, 0, 100));
     OK(derrimas_set(&w, A, 0));
     OK(derrimas_collect(&w, &passed));
-    IS(passed.picked, 1); /* one waits */
+    IS(passed.picked, 1); /* one is waiting */
     OK(derrimas_finalize_all(&w, A, procs, 2, NULL, &count));
     IS(count, ORDER + 1);
     IS(ran, ORDER + 1);
@@ -310,7 +310,7 @@ static void finalized_all(void)
     derrimas_destroy(&w);
 }
 
-/* Registers two objects behind the others, of which one is live, and the other is queued by a collection. */
+/* Registers two objects after the others. One is live, and the other is queued by a collection. */
 static void two_more(derrimas_world *world, const derrimas_entry *e, void *data)
 {
     noted(world, e, data);
@@ -322,7 +322,8 @@ static void two_more(derrimas_world *world, const derrimas_entry *e, void *data)
     OK(derrimas_collect(world, NULL));
 }
 
-/* Of those that were registered when it began each runs once, in whichever order they were registered; of what comes meanwhile what is queued, at the end. */
+/* Each object that was registered at the beginning is finalized once, in any order of registration. Of those registered meanwhile, the queued ones are, at the
+ * end. */
 static void finalized_meanwhile(void)
 {
     derrimas_world w = {0};

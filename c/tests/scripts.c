@@ -7,7 +7,7 @@
 
 enum { MOST_FIELDS = 8, MOST_WORKERS = 8, MOST_BYTES = 200, SEATS_MISSING = 16 };
 
-/* A worker's hand: the entry that it took last, until it has finished it or given it up. */
+/* The state of a worker: the entry that it took last, until it has finished it or given it up. */
 struct hand {
     bool has;
     derrimas_entry entry;
@@ -19,7 +19,7 @@ static uint64_t workers, finished, forfeited, line_number = 1;
 
 /* ---- the words of a line */
 
-/* Ends the run at a line that spells no step. Each step reads all its fields before it makes its call. */
+/* Ends the run at a line that isn't a valid step. Each step reads all its fields before it makes its call. */
 _Noreturn static void malformed(void)
 {
     printf("line %" PRIu64 " refused 15 BadLine\n", line_number);
@@ -27,7 +27,7 @@ _Noreturn static void malformed(void)
     exit(1);
 }
 
-/* Decimal digits without a leading zero, of a number of 64 bits. */
+/* Reads decimal digits without a leading zero, of a number of 64 bits. */
 static uint64_t number(const char *word)
 {
     uint64_t value = 0;
@@ -67,7 +67,7 @@ static derrimas_links links(const char *word) { return is_second(word, "short", 
 
 /* ---- replies */
 
-/* Tells a refusal. Returns whether the call was accepted, so that its answer is to be told. */
+/* Prints a refusal. Returns whether the call was accepted, so that its result is to be printed. */
 static bool accepted(unsigned code)
 {
     if (code == DERRIMAS_OK)
@@ -249,9 +249,9 @@ static void step_outstanding(char **field)
         printf("outstanding %" PRIu64 "\n", outstanding);
 }
 
-/* ---- steps of workers: the refusals of their hands come before those of the call */
+/* ---- steps of workers: a refusal by the worker's state comes before a refusal by the call */
 
-/* The worker's hand, or NULL where the step is refused, which is told then. */
+/* The worker's state, or NULL if the step is refused, which is printed then. */
 static struct hand *hand_of(const char *word, bool is_to_have)
 {
     uint64_t worker = number(word);
@@ -346,7 +346,7 @@ static const struct verb {
     {"outstanding", 0, 0, step_outstanding},
 };
 
-/* The first step is `open`, and no later one is. */
+/* The first step must be `open`, and no later one may be. */
 static void carry_out(char *line)
 {
     char *field[MOST_FIELDS + 1] = {NULL};
@@ -366,7 +366,7 @@ static void carry_out(char *line)
     malformed();
 }
 
-/* The next line without its end: false where there is none. A byte 0 can be of a comment alone. */
+/* The next line without its end; false if there is none. Only a comment may contain a byte 0. */
 static bool read_line(FILE *script, char *line)
 {
     size_t length = 0;

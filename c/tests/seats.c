@@ -1,5 +1,5 @@
-/* The calls of lines and seats, and then workers that take entries from a line without a lock: the thread that has the world takes them from the
- * queue, publishes them, and finishes what the workers have done. Each finalizer runs once, and each seat gets its entries in the queue's order.
+/* The calls of lines and seats, and then workers that take entries from a line without a lock: the thread that owns the world takes them from the queue,
+ * publishes them, and finishes what the workers have done. Each finalizer runs once, and each seat gets its entries in the queue's order.
  */
 #include "check.h"
 #include <pthread.h>
@@ -18,7 +18,7 @@ static derrimas_entry numbered(uint64_t n)
     return entry;
 }
 
-/* ---- each call, and each refusal that C can bring about */
+/* ---- each call, and each refusal that C can cause */
 
 static void calls(void)
 {
@@ -54,18 +54,18 @@ static void calls(void)
 
     derrimas_line_destroy(&line);
     IS(line.inside == NULL, true);
-    OK(derrimas_seat_take(&two, &taken)); /* what was published stays */
+    OK(derrimas_seat_take(&two, &taken)); /* published entries stay */
     IS(memcmp(&taken, &second, sizeof taken), 0);
     OK(derrimas_seat_done(&one));
     IS(derrimas_seat_take(&one, &taken), DERRIMAS_EMPTY);
     derrimas_seat_destroy(&one);
-    derrimas_seat_destroy(&two); /* with an entry in hand */
+    derrimas_seat_destroy(&two); /* with an entry taken and not done */
     IS(derrimas_seat_done(&two), DERRIMAS_NO_WORLD);
     derrimas_seat_destroy(&three);
     derrimas_line_destroy(&line);
 }
 
-/* A line of each number of seats: each of them takes an entry, and no further seat is handed out. */
+/* Lines with each number of seats: each seat takes an entry, and no further seat can be opened. */
 static void each_number_of_seats(void)
 {
     for (uint64_t number = 1; number <= DERRIMAS_MAX_SEATS; number++) {
@@ -93,7 +93,7 @@ static void each_number_of_seats(void)
     }
 }
 
-/* A line that goes on from the entry at which another ended: also from a high number on. */
+/* A line that continues from the entry at which another ended: also from a high number. */
 static void from_an_entry_on(uint64_t first)
 {
     derrimas_line line = {0};
@@ -128,7 +128,7 @@ static void from_an_entry_on(uint64_t first)
     IS(line.first == 0 && seat.first == 0, true);
 }
 
-/* A seat that takes as many entries as this, while up to 100 wait. */
+/* A seat that takes this number of entries, while up to 100 wait. */
 static void long_lived(uint64_t count)
 {
     derrimas_line line = {0};
@@ -154,7 +154,7 @@ static void long_lived(uint64_t count)
     derrimas_line_destroy(&line);
 }
 
-/* ---- workers beside the thread that has the world */
+/* ---- workers beside the thread that owns the world */
 
 static void *work(void *seat)
 {

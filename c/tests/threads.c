@@ -1,6 +1,5 @@
-/* Threads of C share a world behind a mutex of their own: makers make, register and drop objects, a collector collects, in one step or in many,
- * and workers take entries, run their procedures without the lock, and finish them. Each finalizer runs once. Beside that, threads with a world each
- * need no lock.
+/* C threads share a world, guarded by a mutex of their own: makers make, register and drop objects, a collector collects, in one step or in many, and workers
+ * take entries, run their procedures without the lock, and finish them. Each finalizer runs once. In addition, threads with a world each run without a lock.
  */
 #include "derrimas.h"
 #include <pthread.h>
@@ -32,7 +31,7 @@ static void leave(void)
     sched_yield();
 }
 
-/* Each maker has a slot of its own, in which it makes one object after another: each goes when the next comes. */
+/* Each maker has its own slot, in which it makes one object after another: each is dropped when the next one is made. */
 static void *make(void *maker)
 {
     derrimas_slot slot = derrimas_at(0, *(const uint64_t *)maker);
@@ -56,7 +55,7 @@ static void *make(void *maker)
     return NULL;
 }
 
-/* A cycle in steps, between which the others have the lock. */
+/* A cycle in steps. Between the steps other threads get the lock. */
 static void collect_in_steps(void)
 {
     derrimas_passed passed;

@@ -1,6 +1,6 @@
-/* workers [STEPS]: derrimas_workers.h: each refusal, and workers that run what is queued, also where threads can't be started, memory is refused, a procedure
- * ends its thread or doesn't return, a pass is open, the processor is too old, and the finalizers are destroyed too early. Then so many steps of chance beside a
- * plain model.
+/* workers [STEPS]: derrimas_workers.h: each refusal, and workers that run what is queued, also if threads can't be started, memory is refused, a procedure ends
+ * its thread or doesn't return, a pass is open, the processor is too old, or the finalizers are destroyed too early. Then so many random steps beside a plain
+ * model.
  */
 #define _POSIX_C_SOURCE 200809L
 #include "check.h"
@@ -13,18 +13,18 @@
 #include <time.h>
 
 enum { ALL = 2000, WORKERS = 4, FEW = 200 };
-enum { PLAIN, HOLDS, EXITS, CALLS, FINISHES }; /* what a procedure does */
+enum { PLAIN, HOLDS, EXITS, CALLS, FINISHES }; /* the action of a procedure */
 
 static pthread_mutex_t lock = PTHREAD_MUTEX_INITIALIZER;
 static derrimas_finalizers finalizers;
 static derrimas_workers workers;
-static uint64_t data[4 * ALL], next_data; /* written before an object is queued, and read by its procedure, whose client data is the place */
+static uint64_t data[4 * ALL], next_data; /* written before an object is queued, and read by its procedure, whose client data is the index */
 static atomic_uint ran[ALL + 1], all_ran, unordered, refused;
 static atomic_bool is_held, has_no_memory;
 static bool is_old; /* the processor */
-static atomic_int threads_left = -1; /* of those that may be started; -1 is no limit */
+static atomic_int threads_left = -1; /* the number of threads that may still be started; -1 is no limit */
 
-/* ---- what the linker puts in the place of calls (-Wl,--wrap) */
+/* ---- replacements for calls, by the linker (-Wl,--wrap) */
 
 void *__real_malloc(size_t size);
 void *__real_calloc(size_t count, size_t size);
@@ -134,7 +134,7 @@ static void start(uint64_t count)
     IS(started, count);
 }
 
-/* How many of the objects' procedures ran just so often. */
+/* How many of the objects' procedures ran exactly so often. */
 static uint64_t ran_times(uint64_t count, unsigned times)
 {
     uint64_t found = 0;
@@ -222,7 +222,7 @@ static void each_number_of_workers(void)
     }
 }
 
-/* Workers that have slept wake up for what comes, and what a host takes itself is not theirs. */
+/* Sleeping workers wake up for new entries, and entries that the host takes itself don't reach them. */
 static void after_a_while(void)
 {
     const struct timespec a_while = {0, 20000000};
@@ -245,7 +245,7 @@ static void after_a_while(void)
     IS(ran[5], 0);
 }
 
-/* Entries of cleanups have no object, and are run and finished as others are. */
+/* Entries of cleanups have no object, and are run and finished like others. */
 static void cleanups(void)
 {
     uint64_t queued;
@@ -264,7 +264,7 @@ static void cleanups(void)
     IS(stopped().finished, FEW);
 }
 
-/* ---- what goes wrong */
+/* ---- failures */
 
 static void few_threads(void)
 {
@@ -306,7 +306,7 @@ static void no_memory(void)
     IS(derrimas_workers_wait(&workers, 5), DERRIMAS_FINALIZERS_PENDING);
     has_no_memory = false;
     is_held = false;
-    do { /* no call publishes the rest but those of the workers, as they finish */
+    do { /* only the workers' calls publish the rest, as they finish */
         OK(derrimas_workers_count(&workers, &counts));
         sched_yield();
     } while (counts.finished < FEW);
@@ -316,7 +316,7 @@ static void no_memory(void)
     IS(counts.shortages >= 2, true);
 }
 
-/* A procedure that ends its thread: its entry stays held. Where no worker is left, the rest is abandoned too. */
+/* A procedure that ends its thread: its entry stays held. If no worker is left, the remaining entries are abandoned too. */
 static void ended_threads(void)
 {
     derrimas_finalizers_counts left;
@@ -348,7 +348,7 @@ static void finished_by_procedures(void)
     IS(counts.abandoned, 0);
 }
 
-/* A procedure that doesn't return for a while: the others go on, and a stop comes to its end later. */
+/* A procedure that doesn't return for a while: the other workers go on, and a stop completes later. */
 static void held_up(void)
 {
     derrimas_workers_counts counts;
@@ -371,7 +371,7 @@ static void held_up(void)
     IS(stopped().finished, FEW + 1);
 }
 
-/* While a pass is open between holds of the lock, what it has queued is published, run and finished. */
+/* While a pass is open and the lock is released between its steps, what it has queued is published, run and finished. */
 static void open_pass(void)
 {
     derrimas_question question;
@@ -399,7 +399,7 @@ static void open_pass(void)
     IS(stopped().finished, 3);
 }
 
-/* ---- a worker that finds the line empty, and stops there */
+/* ---- a worker that finds the line empty, and is paused there */
 
 enum { GOES, IS_TO_PARK, PARKS };
 static atomic_uint parking;
@@ -418,7 +418,7 @@ derrimas_code __wrap_derrimas_seat_take(derrimas_seat *seat, derrimas_entry *ent
     return code;
 }
 
-/* A worker has found the line empty. Then an entry is published, and then comes the stop: the entry is run all the same. */
+/* A worker has found the line empty. Then an entry is published, and after it the stop flag is set: the entry is run all the same. */
 static void published_behind_a_take(void)
 {
     derrimas_workers_counts counts;
@@ -449,9 +449,9 @@ static void destroyed_early(void)
     IS(ran_times(FEW, 1), FEW);
 }
 
-/* ---- steps of chance */
+/* ---- random steps */
 
-/* The model: whether workers are there, and of this handle how many entries were queued, finished and abandoned by workers that have been stopped. */
+/* The model: whether workers are running; and for this handle how many entries were queued, finished, and abandoned by workers that have been stopped. */
 static struct {
     bool runs;
     uint64_t started, queued, finished, abandoned, shortages;
@@ -514,7 +514,7 @@ static void queues(void)
     model.shortages += code == DERRIMAS_FINALIZERS_NO_MEMORY;
 }
 
-/* Waits for as long as it takes: then nothing waits, and all that was ever queued has run but for what was abandoned. */
+/* Waits for as long as needed: then no entry waits, and everything ever queued has run, except what was abandoned. */
 static void waits(void)
 {
     derrimas_workers_counts counts;
@@ -552,7 +552,7 @@ static void stops(void)
     model.finished += counts.finished;
     model.abandoned += counts.abandoned;
     IS(counts.workers, 0);
-    IS(counts.abandoned <= 1, true); /* what was kept for lack of memory */
+    IS(counts.abandoned <= 1, true); /* what was kept because memory ran out */
     IS(counts.published, counts.finished + counts.abandoned);
     IS(all_ran, model.finished);
 }
