@@ -1,11 +1,11 @@
-"""Draws ratios as bars: an SVG file, which bench/run writes."""
+"""Draws ratios as a bar chart: an SVG file, which bench/run writes."""
 import html, math, textwrap
 
 WIDTH, MARGIN = 900, 16
-# where the scale begins and ends; outside of it stands the figure of the longest bar
+# the ends of the scale; if the longest bar exceeds it, its figure is printed there
 LEFT, RIGHT = 392, 846
-HEAD, GROUP, BAR, GAP = 86, 30, 10, 8  # heights: what stands above the rows, a group's name, a bar, and what parts two rows
-LETTERS = 56  # how many fit into a line of a row's name
+HEAD, GROUP, BAR, GAP = 86, 30, 10, 8  # heights: above the rows, of a group's name, of a bar, and between two rows
+LETTERS = 56  # the number of characters in a line of a row's name
 LINE = 13  # the height of such a line
 LIGHT, DARK = (168, 198, 232), (36, 84, 148)  # the shades of the first size and of the last
 TICKS = [digit * 10.0 ** power for power in range(-4, 5) for digit in (1, 2, 5)]
@@ -24,13 +24,13 @@ def bar(x, y, width, colour):
 
 
 def shade(number, count):
-    """The colour of one of so many sizes."""
+    """The colour of one of this number of sizes."""
     part = number / (count - 1) if count > 1 else 1
     return "#" + "".join(f"{round(light + (dark - light) * part):02x}" for light, dark in zip(LIGHT, DARK))
 
 
 def scale_of(ratios):
-    """The ticks that the ratios and 1 lie between, and where a ratio stands: the scale is logarithmic, and 0 stands where it begins."""
+    """The ticks that enclose the ratios and 1, and the position of a ratio: the scale is logarithmic, and 0 is at its beginning."""
     least, most = min([1, *filter(None, ratios)]), max([1, *ratios])
     first = max(tick for tick in TICKS if tick <= least)
     last = min(tick for tick in TICKS if tick >= most and tick > first)
@@ -41,7 +41,7 @@ def scale_of(ratios):
 
 
 def draw_row(label, ratios, y, place):
-    """A row's name and its bars, which lead from 1 to the ratios; and how high the row is."""
+    """A row's name and its bars, which extend from 1 to the ratios; and the row's height."""
     names, drawn = textwrap.wrap(label.replace("`", ""), LETTERS), []
     height = max(len(ratios) * BAR, len(names) * LINE)
     for number, name in enumerate(names):
@@ -58,7 +58,7 @@ def draw_row(label, ratios, y, place):
 
 
 def draw_head(title, sizes):
-    """The title, and which shade is which size."""
+    """The title, and the legend of the sizes."""
     drawn = [text(MARGIN, 26, title, 'font-size="16" font-weight="bold"'),
              text(MARGIN, 46, "Bars to the left of 1: less time than bdwgc. Bars to the right: more. The scale is logarithmic.", 'fill="#555"')]
     x = MARGIN
@@ -69,7 +69,7 @@ def draw_head(title, sizes):
 
 
 def draw_scale(ticks, place, bottom):
-    """A line at each tick, and a strong one at 1."""
+    """A line at each tick, and a bold one at 1."""
     drawn = []
     for tick in ticks:
         x, is_one = place(tick), tick == 1
@@ -79,7 +79,7 @@ def draw_scale(ticks, place, bottom):
 
 
 def picture(title, sizes, groups):
-    """The picture of groups, each with its name and its rows: what a row says, and its ratio at each size, if it has one."""
+    """The picture of groups, each with its name and its rows: the text of a row, and its ratio at each size, if it has one."""
     groups = [(name, [(label, ratios) for label, ratios in rows if set(ratios) != {None}]) for name, rows in groups]
     ticks, place = scale_of([ratio for _, rows in groups for _, ratios in rows for ratio in ratios if ratio is not None])
     drawn, y = [], HEAD

@@ -1,22 +1,22 @@
-"""The page of calls, docs/reference/CALLS.md, as the sources have it: of each public call its signature, what it does, its errors and its cost; and the fields
-of what calls take and return."""
+"""The page of calls, docs/reference/CALLS.md, generated from the sources: for each public call its signature, its description, its errors and its cost; and the
+fields of the types that calls take and return."""
 import glob, re, textwrap
 
 PAGE = 'docs/reference/CALLS.md'
-# The types whose calls it has, each with its crate.
+# The types whose calls are listed, each with its crate.
 TYPES = [('World', 'fz_world'), ('Service', 'fz_service'), ('Locked', 'fz_service'), ('Seat', 'fz_service'), ('Duty', 'fz_service'), ('Proc', 'fz_service'),
          ('Gate', 'fz_service'), ('Program', 'fz_service'), ('Finalizers', 'fz_finalizers'), ('Host', 'fz_pass'), ('Values', 'fz_pass'), ('Paths', 'fz_why'), ('Machine', 'fz_machine')]
-# The crates whose functions it has, beside the calls of types.
+# The crates whose functions are listed, in addition to the calls of types.
 FUNCTIONS = ['fz_service', 'fz_why']
-# Where the types of answers stand, but for those of a crate itself.
+# The files that declare the result types, except those of a crate itself.
 SHARED = 'fz_model'
-# What begins a block of calls in a source, a call, and a type with fields or variants.
+# The beginnings of a block of calls in a source, of a call, and of a type with fields or variants.
 BLOCK = re.compile(r'(?:impl(?:<.*?>)? |pub trait )(\w+)[<: {]')
 CALL = re.compile(r' {4}(pub )?(?:const )?fn (\w+)')
 DATA = re.compile(r'pub (struct|enum) (\w+)(?:<.*?>)? \{')
-# A variant with fields, each on a line of its own.
+# A variant with fields, each on its own line.
 FIELDS = re.compile(r'^( {4}\w+ \{)\n((?: {8}.*\n)+) {4}\},', re.M)
-# How a sentence begins that says when a call is refused, or what it costs. Of a comment the first sentence counts too.
+# The beginnings of sentences that say when a call is refused, or what it costs. The first sentence of a comment is used too.
 TOLD = re.compile(r'(?:Refus|Fails with|Returns an error|Errors|Takes (?:time|constant|no memory|memory|the time)|It takes|Costs|May block|Blocks|O\()')
 OPENING = '''# The calls
 
@@ -45,7 +45,7 @@ def documented(lines):
 
 
 def said(comment):
-    """A comment as one paragraph, in which a link to an item of the sources is its name alone."""
+    """A comment as one paragraph. A link to an item of the sources becomes its name."""
     return re.sub(r'\[(`[^`]+`)\](?:\([\w:]+\))?', r'\1', ' '.join(line for line in comment if line))
 
 
@@ -56,7 +56,7 @@ def in_short(comment):
 
 
 def signature(lines, number, is_trait=False):
-    """The head of a function on one line, without what isn't its type; that of a trait's method has its `self`."""
+    """The head of a function on one line, reduced to its type. The head of a trait's method has its `self`."""
     head = ''
     for line in lines[number:]:
         text = line.strip()
@@ -73,7 +73,7 @@ def signature(lines, number, is_trait=False):
 
 
 def calls_of(name, crate):
-    """The public calls of a type, those beside its declaration first: each as its signature and what is said of it."""
+    """The public calls of a type, those next to its declaration first: each as its signature and its description."""
     declares = re.compile(rf'^pub (?:struct|trait) {name}\b', re.M)
     for _, file in sorted((not declares.search(open(file).read()), file) for file in glob.glob(f'crates/{crate}/src/*.rt')):
         lines, owner, is_trait = open(file).read().split('\n'), None, False
@@ -92,7 +92,7 @@ def trait_of(name, crate):
 
 
 def functions_of(crate):
-    """The public functions of a crate that belong to no type, but for laws, which do nothing: each as its signature and what is said of it."""
+    """The public functions of a crate that belong to no type, except laws, which do nothing: each as its signature and its description."""
     for file in sorted(glob.glob(f'crates/{crate}/src/*.rt')):
         lines = open(file).read().split('\n')
         for number, line, comment in documented(lines):
@@ -101,7 +101,7 @@ def functions_of(crate):
 
 
 def parts_of(lines, number):
-    """The variants or the public fields of a type, each with what is said of it."""
+    """The variants or the public fields of a type, each with its description."""
     public = 'pub ' if lines[number].startswith('pub struct') else ''
     text = FIELDS.sub(lambda found: ' '.join([found[1], ', '.join(re.findall(r'^ {8}(\w.*),$', found[2], re.M)), '},']), '\n'.join(lines[number + 1:]))
     for _, line, comment in documented(text.split('\n')):
@@ -113,7 +113,7 @@ def parts_of(lines, number):
 
 
 def types_of(crates):
-    """The types of crates that have variants or public fields, each with its crate, what is said of it, and them."""
+    """The types of crates that have variants or public fields, each with its crate, its description, and these."""
     for crate in crates:
         for file in sorted(glob.glob(f'crates/{crate}/src/*.rt')):
             lines = open(file).read().split('\n')
@@ -125,7 +125,7 @@ def types_of(crates):
 
 
 def answers(crates, text):
-    """The types that signatures name, or that those name."""
+    """The types that occur in signatures, or in those types."""
     found, wanted, before = list(types_of(crates)), [], None
     while wanted != before:
         before, named = wanted, text + ' '.join(part for one in wanted for part, _ in one[3])

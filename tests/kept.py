@@ -1,18 +1,18 @@
-"""What passed or was built on this machine, so that it is run or built again only where something that it reads has changed.
+"""What passed or was built on this machine, so that it is run or built again only if something that it reads has changed.
 
-A run of a tool is made in a room of its own: a folder with copies of the files of the tree that the tool is said to read, and of no others. So it can't read one
-that isn't said. What passed there is kept under a sum: the SHA-256 of the tool's words; of these files, among them the tool itself, the modules that it imports,
-and the programs and scripts that its words name; of what it reads beside the tree; and of the machine: the versions of all packages, the files of all commands,
-the toolchain, Python and the kernel. A run that failed, or that skipped something, isn't kept.
+A run of a tool happens in a room of its own: a folder with copies of the files of the tree that the tool is declared to read, and of no others. So it can't
+read a file that isn't declared. A run that passed is kept under a sum: the SHA-256 of the tool's arguments; of these files, including the tool itself, the
+modules that it imports, and the programs and scripts that its arguments name; of what it reads outside of the tree; and of the machine: the versions of all
+packages, the files of all commands, the toolchain, Python and the kernel. A run that failed, or that skipped something, isn't kept.
 
-Entries stand below ~/.cache/derrimas (XDG_CACHE_HOME), a folder for each, which has its record and its files. A record says the sum of each file, and has a code
-by a secret of this user on this machine. So an entry that is damaged, of another name, or copied from elsewhere isn't believed. Whoever can read the secret can
-make one: the folder is this user's alone, and nothing is kept in one that isn't."""
+Entries are stored below ~/.cache/derrimas (XDG_CACHE_HOME). Each has a folder with its record and its files. A record has the sum of each file, and a code made
+with a secret of this user on this machine. So an entry that is damaged, has another name, or was copied from elsewhere isn't accepted. Anyone who can read the
+secret can make one: the folder belongs to this user alone, and nothing is kept in one that doesn't."""
 import contextlib, functools, glob, hashlib, hmac, json, os, platform, re, shutil, stat, subprocess, sys, tempfile
 
-# Where the gate tells a tool the sum of what it reads, for random runs: tests/tree.py.
+# The variable by which the gate passes a tool the sum of what it reads, for random runs: tests/tree.py.
 READ = 'DERRIMAS_READ'
-# Variables that change what a command does.
+# Variables that change the behaviour of a command.
 VARIABLES = ('CC', 'CFLAGS', 'LDFLAGS', 'LD_LIBRARY_PATH', 'LD_PRELOAD', 'PYTHONPATH', 'DERRIMAS', 'LANG', 'LC_ALL', 'PATH')
 
 
@@ -21,7 +21,7 @@ def sum_of(*parts):
 
 
 def sum_of_file(path):
-    """The sum of what the file has, and whether it can be run; of a link within the tree, of where it leads."""
+    """The sum of the file's content, and whether it is executable; for a link within the tree, the sum of its target."""
     if is_inner_link(path):
         return f'to {os.readlink(path)}'
     with open(path, 'rb') as file:
@@ -56,10 +56,10 @@ def machine():
     return sum_of(said, [(it, stamps(it)) for it in folders], sys.version, os.uname().release, platform.machine(), [(it, os.environ.get(it)) for it in VARIABLES])
 
 
-# ---- files that are read
+# ---- files that a tool reads
 
 def files_of(patterns):
-    """The files that these patterns name, in their order, without those of patterns behind a `!`. What is built is left out where the pattern doesn't name it."""
+    """The files that these patterns match, in this order, without those of patterns behind a `!`. Build results are left out unless the pattern names them."""
     found = set()
     for pattern in sorted(patterns, key=lambda it: it.startswith('!')):
         if pattern.startswith('!'):
@@ -74,7 +74,7 @@ def files_of(patterns):
 
 
 def imports_of(tool):
-    """The modules of tests/ that a tool of Python imports, and those that these import."""
+    """The modules of tests/ that a Python tool imports, and those that they import."""
     found, waiting = [], [tool]
     while waiting:
         with open(waiting.pop(), encoding='utf-8', errors='replace') as file:
@@ -86,8 +86,8 @@ def imports_of(tool):
 
 
 class Run:
-    """A run of a tool by these words, which reads the files of these patterns beside those that its words name. `linked` has folders of libraries, which are made of
-    sources that it reads: they stand in its room as links. `beside` has patterns of files outside of the tree."""
+    """A run of a tool with these arguments, which reads the files of these patterns in addition to those that its arguments name. `linked` has folders of
+    libraries, which are built from sources that it reads: they are links in its room. `beside` has patterns of files outside of the tree."""
 
     def __init__(self, words, reads=(), linked=(), beside=()):
         named = [it for it in words if os.path.isfile(it)]
@@ -97,16 +97,16 @@ class Run:
         self.read = self.sum_in('.')
 
     def sum_in(self, top):
-        """The sum of the words and of the files that stand below a folder."""
+        """The sum of the arguments and of the files below a folder."""
         return sum_of(self.words, [(it, sum_of_file(f'{top}/{it}')) for it in self.files])
 
     def name(self):
-        """What it is kept under, as what it reads beside the tree stands now."""
+        """The sum under which it is kept, with the present state of what it reads outside of the tree."""
         return sum_of(self.read, machine(), [(it, sum_of_file(it)) for it in files_of(self.beside)])
 
     @contextlib.contextmanager
     def room(self):
-        """The folder with what it reads. Its sum is that of these copies, whatever becomes of the tree."""
+        """The folder with what it reads. Its sum is that of these copies, whatever happens to the tree."""
         with tempfile.TemporaryDirectory(prefix='run-') as room:
             for it in self.files:
                 os.makedirs(os.path.dirname(f'{room}/{it}'), exist_ok=True)
@@ -122,7 +122,7 @@ class Run:
 
 @functools.lru_cache(maxsize=None)
 def home():
-    """The folder of all that is kept, which has to be this user's alone; or None."""
+    """The folder of everything kept, which only this user may access; or None."""
     at = os.path.join(os.environ.get('XDG_CACHE_HOME') or os.path.expanduser('~/.cache'), 'derrimas')
     with contextlib.suppress(OSError):
         os.makedirs(at, 0o700, exist_ok=True)
@@ -135,7 +135,7 @@ def home():
 
 @functools.lru_cache(maxsize=None)
 def secret():
-    """What codes are made with. The first run makes it. Where nothing is kept, nothing is made with it."""
+    """The key for the codes. The first run makes it. If nothing is kept, no code is made."""
     if not home():
         return b''
     with contextlib.suppress(FileExistsError), tempfile.NamedTemporaryFile(dir=home()) as made:
@@ -147,7 +147,7 @@ def secret():
 
 
 class Store:
-    """Entries of a kind, of which the newest stay, so many."""
+    """The stored entries of a kind. Only the newest are kept, up to this number."""
 
     def __init__(self, kind, most):
         self.at, self.kind, self.most = home() and f'{home()}/{kind}', kind, most
@@ -156,7 +156,7 @@ class Store:
         return hmac.new(secret(), repr((self.kind, name, body)).encode(), 'sha256').hexdigest()
 
     def get(self, name):
-        """What the entry of this name tells, and the folder of its files; or None where there is none, or none to believe."""
+        """The record of the entry with this name, and the folder of its files; or None if there is no entry, or none that is authentic."""
         if not self.at:
             return None
         with contextlib.suppress(OSError, ValueError, KeyError, TypeError, AttributeError):
@@ -170,7 +170,7 @@ class Store:
         return None
 
     def put(self, name, told, files=()):
-        """Keeps an entry with copies of these files."""
+        """Stores an entry with copies of these files."""
         if not self.at:
             return
         os.makedirs(self.at, exist_ok=True)
@@ -181,7 +181,7 @@ class Store:
             with open(f'{room}/whole/record', 'w', encoding='utf-8') as file:
                 json.dump({'body': body, 'code': self.code(name, body)}, file)
             shutil.rmtree(f'{self.at}/{name}', ignore_errors=True)
-            # another run may have kept the same meanwhile
+            # another run may have stored the same meanwhile
             with contextlib.suppress(OSError):
                 os.rename(f'{room}/whole', f'{self.at}/{name}')
         with contextlib.suppress(OSError):

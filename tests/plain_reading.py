@@ -1,14 +1,14 @@
-"""A second, plain reading of what scripts mean, for tests/random-scripts. It proves nothing.
+"""A second, plain reading of the meaning of scripts, for tests/random-scripts. It proves nothing.
 
-It was made from docs/reference/SCRIPT.md and docs/reference/MODEL.md, and not from the crates' code: sets are sets here, and what is reachable is computed anew after
-each step of a cycle. A script can't come to the end of births, numbers and passes, so the refusal 13 isn't read. 12 is no answer here: memory is
-ample."""
+It was written from docs/reference/SCRIPT.md and docs/reference/MODEL.md, and not from the crates' code: sets are sets here, and reachability is computed anew
+after each step of a cycle. A script can't exhaust births, numbers and passes, so the refusal 13 doesn't occur. 12 isn't a reply here: there is always enough
+memory."""
 import collections, copy, re
 
 HEAP, BLOCK, SLOTS, LIMIT = 65536, 64, 16, 16384
 REFUSALS = {1: 'BadSlot', 2: 'NotPointer', 3: 'OutsideObject', 4: 'BadSize', 5: 'NoSpace', 6: 'NotStart', 7: 'BadCount', 8: 'CycleOpen',
             9: 'NoCycle', 10: 'NotHeld', 11: 'Closed', 14: 'TableFull', 16: 'SeatsMissing'}
-# The fields of each verb, a letter a field.
+# The fields of each verb, one letter a field.
 FORMS = {'open': ['nnn'], 'new': ['nnnK'], 'set': ['nnn'], 'copy': ['nnnn'], 'load': ['nnnnn'], 'store': ['nnnnn'],
          'register': ['nnRnn', 'nnRnnr'], 'unregister': ['nn'], 'link': ['Lnnnnn'], 'unlink': ['Lnnn'], 'move': ['Lnnnnnn'], 'begin': [''],
          'mark': ['n'], 'pause': [''], 'collect': [''], 'take': ['n'], 'hold': ['nnn'], 'finish': ['n'], 'forfeit': ['n'], 'close': [''],
@@ -31,7 +31,7 @@ class TooMany(Exception):
 
 
 class Malformed(Exception):
-    """A line that is no step, or a refused opening: where it stands, and the refusal."""
+    """A line that isn't a step, or a refused opening: its position, and the refusal."""
 
 
 def refuse(number, stands):
@@ -40,32 +40,32 @@ def refuse(number, stands):
 
 
 class World:
-    """A world with its line and its workers. A step is a method, which answers its reply, or each reply that it may get with the world after it."""
+    """A world with its line and its workers. A step is a method. It returns its reply, or each reply that is allowed with the world after it."""
 
     def __init__(self, blocks, frames, workers):
         self.blocks, self.hands = blocks, [None] * workers
         self.slots = {(frame, slot): 0 for frame in range(frames) for slot in range(SLOTS)}
-        self.objects, self.cover = {}, {}  # the objects by their starts, and the start of the object that has each word
+        self.objects, self.cover = {}, {}  # the objects by their starts, and for each word the start of its object
         self.registrations, self.short, self.long = {}, {}, {}
         self.queue, self.held, self.closed = [], [], False
         self.births = self.numbers = self.passes = self.taken = self.finished = self.forfeited = 0
-        self.seen = None  # in a cycle, what was reachable after its begin or a later step
-        self.scans, self.changed = 0, False  # of the open cycle: the scans that are sure, and whether more than marks fell into it
-        self.notes, self.used = set(), set()  # what happened, and where objects stood: for the counts alone
+        self.seen = None  # in a cycle, the objects that were reachable after its begin or a later step
+        self.scans, self.changed = 0, False  # of the open cycle: the scans that are certain, and whether it contains other steps than marks
+        self.notes, self.used = set(), set()  # what happened, and where objects were: only for the counts
 
     def again(self):
         twin = copy.copy(self)
         vars(twin).update((name, it.copy()) for name, it in vars(self).items() if isinstance(it, (dict, list, set)))
         return twin
 
-    # What objects lead to.
+    # References.
 
     def children(self, start):
         words = self.objects[start].words if self.objects[start].kind == 'scanned' else ()
         return {self.cover[word] for word in words if word in self.cover}
 
     def led_to(self, starts):
-        """The starts, and all to which they lead."""
+        """The starts, and everything that they reach."""
         found, waiting = set(), list(starts)
         while waiting:
             start = waiting.pop()
@@ -108,7 +108,7 @@ class World:
     # Objects and words.
 
     def room(self, size, kind):
-        """Where a new object goes."""
+        """The place of a new object."""
         of_class = {(start - HEAP) // BLOCK for start, it in self.objects.items() if (len(it.words), it.kind) == (size, kind)}
         for block in sorted(of_class):
             for cell in range(HEAP + BLOCK * block, HEAP + BLOCK * (block + 1) - size + 1, size):
@@ -211,7 +211,7 @@ class World:
         return [('ok', self)]
 
     def goes_on(self):
-        """An accepted step fell into the cycle."""
+        """An accepted step happened during the cycle."""
         if self.seen is not None:
             self.seen |= self.reachable()
             self.changed = True
@@ -231,7 +231,7 @@ class World:
         return answers
 
     def findings(self):
-        """Each set that a pause may find: what is reachable, and any of what was seen with all to which it leads."""
+        """Each set that a pause may find: what is reachable, and any part of what was seen, with everything that it reaches."""
         found = {frozenset(self.reachable())}
         for start in self.seen.difference(*found):
             more = self.led_to([start])
@@ -260,7 +260,7 @@ class World:
                 self.notes.add(f'{which} link cleared')
 
     def first(self, start):
-        """What a registered object leads to first."""
+        """What a registered object points to first."""
         kind = self.registrations[start].kind
         return [] if kind == 'no_order' else [child for child in self.children(start) if child != start or kind == 'normal']
 
@@ -289,7 +289,7 @@ class World:
         return f'pass {self.passes} picked {len(picks)} reclaimed {gone}'
 
     def note(self, found, unreachable, picks, kept):
-        """What a pass has of each thing that is counted."""
+        """The counts of a pass."""
         waiting = set(unreachable) - set(picks)
         self.notes.update('picked ' + self.registrations[start].kind for start in picks)
         containers = {self.cover[place] for place in (*self.short, *self.long)}
@@ -353,7 +353,7 @@ def field(letter, text):
 
 
 def step_of(line):
-    """The verb and the fields of a step, or None where the line spells none."""
+    """The verb and the fields of a step, or None if the line isn't a step."""
     verb, *texts = line.decode('latin-1').split(' ')
     for form in FORMS.get(verb, []):
         fields = [field(letter, text) for letter, text in zip(form, texts)]
@@ -363,7 +363,7 @@ def step_of(line):
 
 
 def choices(world, verb, fields):
-    """Each reply that a step may get, with the world after it."""
+    """Each reply that is allowed for a step, with the world after it."""
     try:
         answer = getattr(world, verb)(*fields)
     except Refused as it:
@@ -375,7 +375,7 @@ def choices(world, verb, fields):
 
 
 def followed(worlds, step, reply):
-    """The worlds after the step and this reply, each once; and a reply that the step may get."""
+    """The worlds after the step and this reply, each once; and a reply that is allowed for the step."""
     options = [it for world in worlds for it in choices(world, *step)]
     agreed = [world for its, world in options if its == reply]
     if len(agreed) > 1 and step[0] in ('pause', 'collect'):
@@ -404,8 +404,8 @@ def steps_of(script):
 
 
 def reading(script, report):
-    """The report that a script should have, its exit status, and what happened in it. Where a step may have several replies, this follows the
-    report; where the report has none of them, this ends with one of them."""
+    """The report that a script should have, its exit status, and what happened in it. If a step has several allowed replies, this follows the report. If the
+    report has none of them, this ends with one of them."""
     said, text, worlds, notes = iter(report.decode('latin-1').split('\n')), [], [], set()
 
     def done(status, last):

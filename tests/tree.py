@@ -1,14 +1,14 @@
-"""What tells one state of the tree from another, for tools whose draws and random scripts change with it."""
+"""Distinguishes one state of the tree from another, for tools whose random choices and random scripts change with it."""
 import glob, hashlib, os, subprocess
 from kept import READ
 
-# Where there is no repository, what these have stands for the tree.
+# Outside of a repository these files stand for the tree.
 SOURCES = ('crates/*/src/**/*.rt', 'tests/*')
 
 
 def tree():
-    """The sum of what a tool reads, where the gate runs it, so that a run over the same files is the same run; else the hash of the tree that was committed last;
-    outside of a repository, one of the sources and tests."""
+    """When the gate runs a tool: the sum of what it reads, so that a run over the same files is the same run. Otherwise the hash of the last commit; outside of
+    a repository, the sum of the sources and tests."""
     if os.environ.get(READ):
         return os.environ[READ]
     asked = subprocess.run(['git', 'rev-parse', 'HEAD^{tree}'], capture_output=True, text=True)

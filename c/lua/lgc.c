@@ -348,7 +348,7 @@ static void separatetobefnz(global_State *g, int all)
     if (all)
         (void)derrimas_finalizers_queue_all(&g->finalizing->finalizers, NULL);
     else if (derrimas_finalizers_pass(&g->finalizing->finalizers, &host, g, NULL) != DERRIMAS_FINALIZERS_OK)
-        abort();  /* without a pass nothing may be swept */
+        abort();  /* without a pass nothing may be reclaimed */
     else
         give_back(g->finalizing);
 }

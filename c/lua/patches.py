@@ -1,28 +1,28 @@
-"""What is changed in the files of Lua 5.4 for its finalizers to be those of derrimas_finalizers.h: functions that go, statements that go or come, fields that go.
-No line of Lua is quoted: a place is found by the function and the names in it, and has to be there just as often as is said. `replaced` gives the
-changed files by their names. `alike` changes the collector of any of the two builds, so that both keep the same time and programs that are compared by their
-memory print the same."""
+"""The changes to the files of Lua 5.4 that make its finalizers those of derrimas_finalizers.h: functions that are removed, statements that are removed or
+inserted, fields that are removed. No line of Lua is quoted. A place is found by the function and the names in it, and must exist exactly as often as given.
+`replaced` returns the changed files by name. `alike` changes the collector of either build so that both have the same pace: then programs that are compared by
+their memory print the same."""
 import re
 
-# Functions of lgc.c in whose place lgc.c of this folder has its own, or that nothing calls any more.
+# Functions of lgc.c that lgc.c of this folder replaces, or that nothing calls any more.
 GONE = ['udata2finalize', 'findlast', 'separatetobefnz', 'checkpointer', 'correctpointers', 'luaC_checkfinalizer', 'markbeingfnz']
-# The lists of objects with finalizers: those that have one, with what is young among them, and those whose finalizers wait.
+# The lists of objects with finalizers: those that have one, the young ones among them, and those whose finalizers wait.
 LISTS = r'\b(?:finobj\w*|tobefnz)\b'
 
 
 def blanked(text):
-    """The text with blanks in the place of comments."""
+    """The text with comments replaced by blanks."""
     return re.sub(r'/\*.*?\*/', lambda it: re.sub(r'[^\n]', ' ', it[0]), text, flags=re.S)
 
 
 class Source:
-    """A file of C, which is changed place by place."""
+    """A C file, which is changed place by place."""
 
     def __init__(self, text):
         self.text = text
 
     def only(self, pattern, what, within=None, times=1):
-        """Where a pattern is found in the text without comments, as often as is said, in a function or in the whole."""
+        """The places where a pattern matches the text without comments, in a function or in the whole file. Their number has to be the expected one."""
         begin, end = within or (0, len(self.text))
         found = [it.span() for it in re.compile(pattern, re.M | re.S).finditer(blanked(self.text), begin, end)]
         if len(found) != times:
@@ -30,7 +30,7 @@ class Source:
         return found
 
     def function(self, name):
-        """Where the definition of a function is."""
+        """The position of a function's definition."""
         return self.only(rf'^[A-Za-z_][\w \*]*\b{name} *\([^;{{}}]*\) *\{{.*?^\}}\n', name)[0]
 
     def cut(self, places, new=''):
@@ -41,7 +41,7 @@ class Source:
         self.cut([self.function(name)])
 
     def without_statements(self, name, words, times):
-        """A function without its statements that have one of these words."""
+        """Removes the statements of a function that contain one of these words."""
         self.cut(self.only(rf'[^;{{}}]*(?:{words})[^;{{}}]*;', f'statements of {name} with {words}', self.function(name), times))
 
     def without_case(self, name, label):
@@ -51,11 +51,11 @@ class Source:
         self.cut(self.only(rf'^ *GCObject \*{name};[^\n]*\n', f'the field {name}'))
 
     def put(self, name, pattern, new, times=1):
-        """Other words in a function, for those that a pattern finds."""
+        """Replaces what a pattern matches in a function."""
         self.cut(self.only(pattern, f'{pattern} in {name}', self.function(name), times), new)
 
     def put_before(self, name, pattern, new):
-        """Further words in a function, before those that a pattern finds."""
+        """Inserts text in a function before what a pattern matches."""
         begin, _ = self.only(pattern, f'{pattern} in {name}', self.function(name))[0]
         self.cut([(begin, begin)], new)
 
@@ -75,7 +75,7 @@ def collector(text):
     lgc.without_statements('enterinc', LISTS, 3)
     lgc.put_before('enterinc', r'\bg->gcstate\b', 'none_is_old(g); ')
     lgc.put('atomic', r'\bmarkbeingfnz\b', 'waiting')
-    # of all that is swept there is one list
+    # everything that is swept is in one list
     lgc.put('singlestep', r'GCSswpfinobj, &g->finobj\b', 'GCSswpend, NULL')
     lgc.without_case('singlestep', 'GCSswpfinobj')
     lgc.without_case('singlestep', 'GCSswptobefnz')
@@ -86,7 +86,7 @@ def collector(text):
 
 
 def interface(text):
-    """lapi.c: an object is registered before it gets its metatable, so that a registration that is refused changes nothing."""
+    """lapi.c: an object is registered before it gets its metatable, so a refused registration changes nothing."""
     lapi = Source(text)
     lapi.without_statements('lua_setmetatable', r'\bluaC_checkfinalizer\b', 2)
     lapi.put_before('lua_setmetatable', r'\bswitch\b',
@@ -95,7 +95,7 @@ def interface(text):
 
 
 def state(text):
-    """lstate.h: one field in the place of five lists. Their room is kept, since the state's size counts in the pace of collections."""
+    """lstate.h: one field replaces five lists. Their space is kept, since the size of the state counts in the pace of collections."""
     lstate = Source(text)
     for name in ('tobefnz', 'finobjsur', 'finobjold1', 'finobjrold'):
         lstate.without_field(name)
@@ -112,14 +112,15 @@ def opening(text):
 
 
 def replaced(texts):
-    """The package's files that are changed, each by its name in the build, of the package's texts by their names."""
+    """The changed files of the package by their names in the build, from the package's texts by name."""
     return {'lgc_package.c': collector(texts['lgc.c']), 'lapi.c': interface(texts['lapi.c']), 'lstate.h': state(texts['lstate.h']),
             'lstate.c': opening(texts['lstate.c'])}
 
 
 def alike(text):
-    """lgc.c, of either build, as one whose sweep is a single step that counts for nothing: it doesn't matter in how many lists the objects are. And where a
-    generational collection turns into one in steps, the estimate of memory is made once the sweep has begun, which frees what is dead at a list's beginning."""
+    """lgc.c of either build, changed so that the sweep is a single step without cost: then it doesn't matter how many lists the objects are in. When a
+    generational collection turns into an incremental one, the estimate of memory is made after the sweep has begun, which frees dead objects at the beginning
+    of a list."""
     lgc = Source(text)
     lgc.put('sweepstep', r'\breturn count;', 'return 0;')
     begin, end = lgc.only(r'(?<=\bwhile \()debt > [^;]*(?=\);)', 'the end of incstep', lgc.function('incstep'))[0]

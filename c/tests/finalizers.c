@@ -1137,7 +1137,7 @@ static void numbers(void)
     closes();
 }
 
-/* A pass with these answers to its questions about regions. Objects that are unmarked there are also unmarked later. Returns how many regions it asked about. */
+/* A pass with these answers to its questions about regions. Objects unmarked there are also unmarked later. Returns how many regions it asked about. */
 static uint64_t regions_asked(uint64_t live, uint64_t others)
 {
     derrimas_question question;

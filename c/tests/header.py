@@ -1,11 +1,11 @@
 #!/usr/bin/env python3
-"""Compares the headers of c/include and what c/src declares of the exports with the crate behind them, by reading all.
+"""Compares the headers of c/include and the declarations of the exports in c/src with the crate behind them, by reading all of them.
 
-derrimas.h stands with c/src/exports.h over what crates/fz_c has for worlds and lines, and derrimas_finalizers.h with c/src/finalizers_exports.h over what it has
-for finalizers. Of each export the name, the types of its parameters in their order, and that of its result have to be the same, and each has to
-stand on both sides. Of each struct the fields, their types and their order. A parameter of type Global is the kit's heap, which has no bytes and isn't C's.
-How the structs lie in memory is for layout.c and finalizers.c. The codes are compared with the refusals and the constants of the crates; from a number on
-they are the C side's own. And each call that a header declares has to stand in its C side, and no other."""
+derrimas.h, with c/src/exports.h, corresponds to what crates/fz_c has for worlds and lines, and derrimas_finalizers.h, with c/src/finalizers_exports.h, to what
+it has for finalizers. The name of each export, the types of its parameters in their order, and the type of its result have to be the same, and each export has
+to exist on both sides. The same holds for the fields of each struct, with their types and their order. A parameter of type Global is the kit's heap, which has
+no bytes and isn't C's. The memory layout of the structs is checked by layout.c and finalizers.c. The codes are compared with the refusals and the constants of
+the crates; from a certain number on they are the C side's own. And each call that a header declares has to be defined in its C side, and no other."""
 import glob, os, re, sys
 
 TOP = os.path.join(os.path.dirname(os.path.abspath(__file__)), '..', '..')
@@ -17,8 +17,8 @@ found = []
 class Worlds:
     headers, exports, sides = ['derrimas_common.h', 'derrimas.h'], 'exports.h', ['derrimas.c']
     parts, refusals = ['entry', 'old', 'world/**/*', 'line/**/*'], 'crates/fz_model/src/refusal.rt'
-    prefix, own = 'derrimas_', 70  # the first code of the C side
-    refused = range(15)  # the refusals that come to C
+    prefix, own = 'derrimas_', 70  # the first code of the C side itself
+    refused = range(15)  # the refusals that reach C
     shared = set()
     types = {'WorldHandle': 'derrimas_world', 'LineHandle': 'derrimas_line', 'SeatHandle': 'derrimas_seat'}
     alone = [*types.values(), 'derrimas_scope', 'derrimas_allocator']  # structs that no export has, and handles
@@ -29,7 +29,7 @@ class Finalizers:
     parts, refusals = ['old', 'machine/**/*'], 'crates/fz_c/src/machine/codes.rt'
     prefix, own = 'derrimas_finalizers_', 11
     refused = range(11)
-    shared = {'OVERLAP'}  # codes from there on that an export returns
+    shared = {'OVERLAP'}  # codes from `own` on that an export returns all the same
     types = {'MachineHandle': 'derrimas_finalizers', 'SnapshotHandle': 'fz_snapshot', 'Told': 'fz_machine_told', 'HostEntry': 'derrimas_finalizers_entry', 'Linked': 'derrimas_finalizers_link_at',
              'RegistrationAt': 'fz_machine_registration_at', 'KeyAt': 'fz_machine_key_at', 'CleanupAt': 'fz_machine_cleanup_at', 'Question': 'derrimas_question', 'u32': 'derrimas_ask',
              **{name: f'fz_machine_some_{name.lower()}' for name in ('Registrations', 'Links', 'Cleanups')},
@@ -52,7 +52,7 @@ def read(pattern):
 
 
 def named(rust, of):
-    """The name in C of a type of the crate: derrimas_old of Old, derrimas_slot of CSlot."""
+    """The C name of a type of the crate: derrimas_old for Old, derrimas_slot for CSlot."""
     return of.types.get(rust) or PLAIN.get(rust) or of.prefix + re.sub(r'(?<!^)(?=[A-Z])', '_', re.sub(r'^C(?=[A-Z])', '', rust)).lower()
 
 
@@ -64,7 +64,7 @@ def of_rust(rust, of):
 
 
 def exports(text, of):
-    """Of each export: its result, and its parameters' types."""
+    """For each export: its result, and the types of its parameters."""
     calls = {}
     for name, parameters, result in re.findall(r'extern "C" fn (\w+)\((.*?)\)\s*(?:-> (\w+))?', text, re.S):
         types = [p.split(':', 1)[1].strip() for p in re.split(r',(?![^<]*>)', parameters) if p.strip()]
@@ -81,7 +81,7 @@ def declarations(text):
 
 
 def calls_of(text, of, end):
-    """Each call that a file of C declares or defines, with its parameters. What the header defines inline isn't in the library."""
+    """Each call that a C file declares or defines, with its parameters. Calls that the header defines inline aren't in the library."""
     text = re.sub(r'/\*.*?\*/|^#.*?$|static inline .*?^}', '', text, flags=re.S | re.M)
     results = r'(?:DERRIMAS_CHECKED )?(?:derrimas_\w*code|code|void|bool|uint64_t|const char \*)'
     rows = re.findall(rf'^{results}\s*({of.prefix}\w+)\(((?:[^()]|\([^()]*\))*)\){end}', text, re.M)
@@ -114,7 +114,7 @@ def codes_of_c(text, of):
 
 
 def codes_of_rust(refusals, crate, of):
-    """The numbers of refusals, and of the border's own codes."""
+    """The numbers of refusals, and of the codes of the border itself."""
     names = re.findall(r'Refus(?:al|ed)::(\w+) => (\d+)', refusals)
     upper = {re.sub(r'(?<!^)(?=[A-Z])', '_', name).upper(): int(number) for name, number in names if int(number) in of.refused}
     return {**upper, **{name: int(number) for name, number in re.findall(r'const (\w+): Code = (\d+);', crate)}}
@@ -128,7 +128,7 @@ def compare(what, here, there):
 
 
 def compared(of):
-    """How many exports, structs, codes and calls were compared."""
+    """The number of exports, structs, codes and calls compared."""
     header = '\n'.join(read(f'c/include/{it}') for it in of.headers)
     declared, side = read(f'c/src/{of.exports}'), '\n'.join(read(f'c/src/{it}') for it in of.sides)
     crate = '\n'.join(read(f'crates/fz_c/src/{it}.rt') for it in of.parts)

@@ -172,7 +172,7 @@ static void without_memory(uint64_t objects)
     granted = -1;
 }
 
-/* Opens a line with fewer allocations than it needs, opens its seat, and publishes entries, each at first without memory. Returns how many of these were
+/* Opens a line with fewer allocations than it needs, gets its seat, and publishes entries, each at first without memory. Returns how many of these were
  * refused. */
 static unsigned publishing(void)
 {

@@ -65,7 +65,7 @@ static void calls(void)
     derrimas_line_destroy(&line);
 }
 
-/* Lines with each number of seats: each seat takes an entry, and no further seat can be opened. */
+/* Lines with each number of seats: each seat takes an entry, and no further seat is left. */
 static void each_number_of_seats(void)
 {
     for (uint64_t number = 1; number <= DERRIMAS_MAX_SEATS; number++) {

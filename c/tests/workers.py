@@ -1,5 +1,5 @@
 #!/usr/bin/env python3
-"""derrimas.workers over the library: entries are run once, by threads, with the lock given back; what procedures raise; limits of time; refusals; the ends of a
+"""derrimas.workers over the library: threads run each entry once and release the lock meanwhile; exceptions of procedures; time limits; refusals; the ends of a
 scope and of a program."""
 import os, subprocess, sys, threading, time
 HERE = os.path.dirname(os.path.abspath(__file__))
@@ -25,7 +25,7 @@ def refusal(call, *arguments):
 
 
 def queue(finalizers, lock, workers, numbers):
-    """Queues an entry of each number, and publishes them."""
+    """Queues an entry for each number, and publishes them."""
     with lock:
         for number in numbers:
             finalizers.register(number, proc=0, cd=number * number)
@@ -37,7 +37,7 @@ def runs_each_once():
     finalizers, lock, ran, threads = Finalizers(), threading.Lock(), [], set()
 
     def run(entry):
-        with lock:  # a procedure may have it, and make calls
+        with lock:  # a procedure may hold it and make calls
             ran.append((entry.obj, entry.cd, finalizers.counts().held > 0))
         threads.add(threading.get_ident())
         time.sleep(.001)
