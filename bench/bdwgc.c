@@ -1,4 +1,4 @@
-/* bdwgc.c - times bdwgc's calls that stand nearest to the world's.
+/* bdwgc.c - times the calls of bdwgc that are closest to the world's.
  *   bdwgc ROW N      the nanoseconds of a row of rows.h for each of N objects, or "-" where N is too large for it
  * bench/run builds it, and runs it beside world.c. It also builds it over two libraries of bdwgc, with its own finalize.c and with that of c/bdwgc.
  */

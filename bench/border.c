@@ -1,6 +1,6 @@
 /* border.c - times calls of c/include/derrimas.h, as C makes them.
  *   border TEST N    the nanoseconds of one call: the least of some turns, each in a world or with a line of its own
- * bench/run builds it with crates/fz_c and c/src/derrimas.c. What N counts stands beside each test.
+ * bench/run builds it with crates/fz_c and c/src/derrimas.c. The meaning of N is given with each test.
  */
 #include "derrimas.h"
 #include <math.h>

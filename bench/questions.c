@@ -2,7 +2,7 @@
  *   questions TEST N     the nanoseconds, or bytes, for each of N registered objects: the least of some turns, each with a handle of its own
  * bench/run builds it with the library of c/build.
  *
- * A question takes what lies between two answers of the host: the step to the next one, and here a host that looks at nothing. */
+ * The time of a question is the time between two answers of the host: the step to the next one, plus, here, a host that looks at nothing. */
 #include "derrimas_finalizers.h"
 #include <math.h>
 #include <stdio.h>

@@ -3,7 +3,7 @@
  * An ephemeron is a word with a key, an object of the heap. The value of the ephemeron is what the word points to at a collection; the word may be written at
  * any time. The value is retained only as long as the key is, and the object in which the word lies, if there is one. So a value that leads to its key doesn't
  * retain it. The word lies where bdwgc scans nothing: in an object of GC_MALLOC_ATOMIC, or in memory of malloc or mmap. In a scanned object, a static variable
- * or a stack it retains its value whatever becomes of the key. A word that a collection has set to null is no ephemeron any more. */
+ * or a stack it retains its value whatever happens to the key. A word that a collection has set to null is no ephemeron any more. */
 #ifndef GC_EPHEMERON_H
 #define GC_EPHEMERON_H
 

@@ -82,8 +82,8 @@ static size_t place_of(uint64_t number) { return number / STEP % PLACES; }
 
 /* ---- memory: by Lua's allocator
  *
- * Lua's allocator is told the size of a block that it changes or frees, so each block of the library has its size before it. None of it counts in GCdebt: a
- * collection gives none of it back, and without the library a registration takes no memory, so the pace of collections is the same. */
+ * Lua's allocator requires the size of a block that it changes or frees, so each block of the library is preceded by its size. None of them counts in GCdebt:
+ * a collection frees none of them, and the package's own registrations take no memory, so the pace of collections is the same. */
 
 enum { HEAD = 16, KIND = 1 << 16 };  /* for the allocator: the blocks have a kind that no object of Lua has */
 

@@ -105,8 +105,8 @@ uint8_t fz_snapshot_root(fz_snapshot *snapshot, uint64_t word);
 uint8_t fz_snapshot_holder(fz_snapshot *snapshot, uint64_t word, uint64_t *object);
 uint8_t fz_snapshot_step(fz_snapshot *snapshot, uint64_t index, uint64_t *object);
 
-/* What the proved part calls for memory: it is taken by the allocator of the handle whose call this thread makes, and outside of such a call by the C library's.
- * An alignment divides 16. A block that isn't had is still where it was, and as it was. */
+/* The proved part allocates memory by these calls. They use the allocator of the handle whose call this thread is in, and outside of such a call the C
+ * library's. An alignment divides 16. If a reallocation fails, the old block stays in place, unchanged. */
 typedef struct rattle_tried {
     uint64_t is_right;
     void *memory;
@@ -116,7 +116,7 @@ rattle_tried rattle_alloc(size_t size, size_t align);
 rattle_tried rattle_realloc(void *memory, size_t kept, size_t size, size_t align);
 void rattle_dealloc(void *memory);
 
-/* What finalizers.c has for why.c: the exports that this thread calls from now on take memory by the allocator. NULL: it makes no such call. */
+/* For why.c, defined in finalizers.c: the exports that this thread calls from now on use this allocator. NULL ends that. */
 void rattle_memory_by(const derrimas_allocator *allocator);
 
 #endif

@@ -1372,7 +1372,7 @@ static void held(void)
     closes();
 }
 
-/* ---- what stands */
+/* ---- reading the tables */
 
 static void roots(void)
 {

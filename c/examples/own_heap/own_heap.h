@@ -6,7 +6,7 @@
  *
  * Registrations, links, ephemerons and cleanups are made by the library's calls on `finalizers`, with numbers by
  * own_heap_number and own_heap_word. The word of a link or an ephemeron lies in an object, and targets and keys are objects.
- * The word of an ephemeron lies in an object that isn't scanned; in a scanned one it retains its value whatever becomes of
+ * The word of an ephemeron lies in an object that isn't scanned; in a scanned one it retains its value whatever happens to
  * the key. Entries are taken by the library's calls too, or by own_heap_run. An object with cleanups and no finalizer is freed by
  * the collection that queues the long ones. */
 #ifndef OWN_HEAP_H
