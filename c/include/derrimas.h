@@ -20,8 +20,9 @@
  *
  * A call that can be refused returns a derrimas_code: DERRIMAS_OK, or why it was refused. A refused call changes
  * nothing, and leaves the places for its results as they were, with two exceptions: derrimas_alloc_or_collect may have
- * collected, and derrimas_take that returns DERRIMAS_EMPTY has passed over entries. If several errors apply, the first
- * in the order of the call's comment is returned. The meaning of a code is beside it below.
+ * collected, and derrimas_take and derrimas_finish_and_take that return DERRIMAS_EMPTY have passed over entries, the
+ * latter after it has finished one. If several errors apply, the first in the order of the call's comment is returned.
+ * The meaning of a code is beside it below.
  *
  * What the caller owes, since nothing checks C:
  * - A pointer points to a value of its type, which no other thread and no other argument of the call uses. It may be
@@ -47,7 +48,7 @@
  * - the addresses that they pass over: derrimas_next_object, .._registration and .._link;
  * - the entries in memory: derrimas_forget;
  * - the logarithm of the entries in memory, and a step for 4,096 finished ones that are passed over: derrimas_take,
- *   .._waiting, .._hold, .._finish, .._next_held and .._queued;
+ *   .._waiting, .._hold, .._finish, .._finish_and_take, .._next_held and .._queued;
  * - the heap, for each rank in use: derrimas_finalize_all.
  *
  * A call that adds to a table or to a line may have to enlarge it, which takes time proportional to its length, and
@@ -404,6 +405,12 @@ derrimas_code derrimas_hold(derrimas_world *world, derrimas_slot slot, const der
  * its object for good.
  * Refused: DERRIMAS_NO_WORLD, DERRIMAS_NOT_HELD. */
 derrimas_code derrimas_finish(derrimas_world *world, const derrimas_entry *entry) DERRIMAS_NONNULL(1, 2);
+
+/* Finishes *entry as derrimas_finish does, and then takes the next entry into *entry as derrimas_take does: one call for
+ * each entry, in a loop that begins with derrimas_take.
+ * Refused: DERRIMAS_NO_WORLD; DERRIMAS_NOT_HELD: then it takes none; DERRIMAS_EMPTY: then the entry is finished, and
+ * *entry stays as it was. */
+DERRIMAS_CHECKED derrimas_code derrimas_finish_and_take(derrimas_world *world, derrimas_entry *entry) DERRIMAS_NONNULL(1, 2);
 
 /* Frees the memory of finished entries; *count is how many. What isn't finished stays, with its place, and is taken,
  * held and finished as before. It frees nothing if there is at most one finished entry for each 16 unfinished ones, and

@@ -226,6 +226,13 @@ public:
     void hold(slot to, const entry &entry) { check(derrimas_hold(&handle_, to, &entry)); }
     void finish(const entry &entry) { check(derrimas_finish(&handle_, &entry)); }
 
+    /* Finishes an entry, and takes the next one. */
+    std::optional<entry> finish_and_take(const entry &entry)
+    {
+        derrimas_entry next = entry;
+        return found(derrimas_finish_and_take(&handle_, &next)) ? std::optional(next) : std::nullopt;
+    }
+
     std::uint64_t forget()
     {
         std::uint64_t count;
@@ -238,9 +245,13 @@ public:
     template <typename Run> std::uint64_t invoke(Run run)
     {
         std::uint64_t taken = 0;
-        for (auto next = take(); next; next = take(), taken++) {
+        for (auto next = take(); next; taken++) {
             run(*this, *next);
-            (void)derrimas_finish(&handle_, &*next);
+            const derrimas_code code = derrimas_finish_and_take(&handle_, &*next);
+            if (code == DERRIMAS_NOT_HELD)
+                next = take();
+            else if (!found(code))
+                break;
         }
         return taken;
     }

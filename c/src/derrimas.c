@@ -191,6 +191,7 @@ derrimas_code derrimas_hold(derrimas_world *world, derrimas_slot slot, const der
 }
 
 derrimas_code derrimas_finish(derrimas_world *world, const derrimas_entry *entry) { return fz_finish(world, entry); }
+derrimas_code derrimas_finish_and_take(derrimas_world *world, derrimas_entry *entry) { return fz_finish_and_take(world, entry); }
 
 /* ---- lines and seats */
 
@@ -288,11 +289,14 @@ uint64_t derrimas_invoke_finalizers(derrimas_world *world, const derrimas_proc *
 {
     uint64_t taken = 0;
     derrimas_entry entry;
+    derrimas_code code = fz_take(world, &entry);
 
-    while (fz_take(world, &entry) == DERRIMAS_OK) {
+    while (code == DERRIMAS_OK) {
         taken++;
         run(world, &entry, procs, count, data);
-        (void)fz_finish(world, &entry);
+        code = fz_finish_and_take(world, &entry);
+        if (code == DERRIMAS_NOT_HELD) /* the procedure has finished it */
+            code = fz_take(world, &entry);
     }
     return taken;
 }

@@ -37,6 +37,7 @@ uint8_t fz_waiting(derrimas_world *world, bool *waiting);
 uint8_t fz_outstanding(derrimas_world *world, uint64_t *count);
 uint8_t fz_hold(derrimas_world *world, derrimas_slot slot, const derrimas_entry *entry);
 uint8_t fz_finish(derrimas_world *world, const derrimas_entry *entry);
+uint8_t fz_finish_and_take(derrimas_world *world, derrimas_entry *entry);
 uint8_t fz_forget(derrimas_world *world, uint64_t *count);
 uint8_t fz_next_object(derrimas_world *world, uint64_t from, derrimas_object *object);
 uint8_t fz_next_registration(derrimas_world *world, uint64_t from, derrimas_registration *registration);

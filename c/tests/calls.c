@@ -49,6 +49,7 @@ static void without_a_world(derrimas_world *w)
     REFUSED(DERRIMAS_NO_WORLD, number, derrimas_outstanding(w, &number));
     IS(derrimas_hold(w, A, &entry), DERRIMAS_NO_WORLD);
     IS(derrimas_finish(w, &entry), DERRIMAS_NO_WORLD);
+    REFUSED(DERRIMAS_NO_WORLD, entry, derrimas_finish_and_take(w, &entry));
     REFUSED(DERRIMAS_NO_WORLD, object, derrimas_next_object(w, 0, &object));
     REFUSED(DERRIMAS_NO_WORLD, registration, derrimas_next_registration(w, 0, &registration));
     REFUSED(DERRIMAS_NO_WORLD, linked, derrimas_next_link(w, DERRIMAS_SHORT, 0, &linked));
@@ -588,6 +589,54 @@ static void queue_entries(derrimas_world *w, uint64_t count)
     IS(passed.picked, count);
 }
 
+/* Finishes an entry and takes the next. A call that takes none leaves the entry as it was. */
+static void goes_on(derrimas_world *w, derrimas_code code, uint64_t seq)
+{
+    derrimas_entry before = entry;
+
+    IS(derrimas_finish_and_take(w, &entry), code);
+    if (code == DERRIMAS_OK)
+        IS(entry.seq, seq);
+    else
+        IS(memcmp(&entry, &before, sizeof entry), 0);
+}
+
+/* Each call finishes an entry, and takes the first one that is neither taken nor finished. */
+static void finish_and_take(void)
+{
+    derrimas_world w = {0};
+    derrimas_entry first;
+
+    OK(derrimas_open(&w, 8, 1));
+    queue_entries(&w, 5);
+    OK(derrimas_take(&w, &first));
+    for (int field = 0; field < 7; field++) {
+        entry = first;
+        (&entry.seq)[field]++;
+        goes_on(&w, DERRIMAS_NOT_HELD, 0);
+    }
+    entry = first;
+    goes_on(&w, DERRIMAS_OK, 1);
+    for (uint64_t seq = 2; seq < 4; seq++) { /* before their turn */
+        OK(derrimas_queued(&w, seq, &first));
+        OK(derrimas_finish(&w, &first));
+    }
+    goes_on(&w, DERRIMAS_OK, 4);
+    OK(derrimas_outstanding(&w, &number));
+    IS(number, 1);
+    goes_on(&w, DERRIMAS_EMPTY, 0);
+    goes_on(&w, DERRIMAS_NOT_HELD, 0);
+    OK(derrimas_count(&w, &counts));
+    IS(counts.queued == 5 && counts.taken == 5 && counts.outstanding == 0, true);
+    queue_entries(&w, 2);
+    OK(derrimas_queued(&w, 6, &entry));
+    goes_on(&w, DERRIMAS_OK, 5); /* the one that is finished needn't be taken */
+    goes_on(&w, DERRIMAS_EMPTY, 0);
+    OK(derrimas_outstanding(&w, &number));
+    IS(number, 0);
+    derrimas_destroy(&w);
+}
+
 /* What is finished and forgotten has no memory; what isn't finished stays, and is taken, held and finished as ever. */
 static void forgotten_entries(void)
 {
@@ -889,6 +938,7 @@ int main(void)
     links_disappear();
     cycles();
     queue();
+    finish_and_take();
     forgotten_entries();
     urgent_entries();
     walks();

@@ -323,6 +323,22 @@ static void step_take(void)
         IS(same(&entry, &m.queue[m.taken++]), true);
 }
 
+/* Where it takes none, the entry stays as it was. */
+static void finish_and_take(derrimas_entry entry, uint64_t seq, bool is_held)
+{
+    derrimas_entry next = entry;
+
+    if (is_held) {
+        m.finished[seq] = true;
+        m.outstanding--;
+        skip_finished();
+    }
+    if (ACCEPTED(derrimas_finish_and_take(&world, &next), !is_held ? DERRIMAS_NOT_HELD : m.taken < m.queued ? DERRIMAS_OK : DERRIMAS_EMPTY))
+        IS(same(&next, &m.queue[m.taken++]), true);
+    else
+        IS(same(&next, &entry), true);
+}
+
 static void step_finish(void)
 {
     uint64_t seq = m.queued ? m.queued - 1 - chance(m.queued < 20 ? m.queued : 20) : 0;
@@ -337,6 +353,8 @@ static void step_finish(void)
     if (chance(3) == 0) {
         if (ACCEPTED(derrimas_hold(&world, at, &entry), first(slot_code(at), is_held ? DERRIMAS_OK : DERRIMAS_NOT_HELD)))
             *word_of(at) = entry.obj;
+    } else if (chance(2) == 0) {
+        finish_and_take(entry, seq, is_held);
     } else if (ACCEPTED(derrimas_finish(&world, &entry), is_held ? DERRIMAS_OK : DERRIMAS_NOT_HELD)) {
         m.finished[seq] = true;
         m.outstanding--;

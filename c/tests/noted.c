@@ -204,6 +204,13 @@ uint8_t fz_hold(derrimas_world *w, derrimas_slot to, const derrimas_entry *entry
 }
 
 uint8_t fz_finish(derrimas_world *w, const derrimas_entry *entry) { return (void)w, noted("finish" ENTRY, OF_ENTRY(entry)); }
+
+uint8_t fz_finish_and_take(derrimas_world *w, derrimas_entry *entry)
+{
+    (void)w;
+    return ENTRY_AT(noted("finish_and_take" ENTRY, OF_ENTRY(entry)), entry);
+}
+
 uint8_t fz_forget(derrimas_world *w, uint64_t *count) { return (void)w, WORD_AT(noted("forget"), count); }
 uint8_t fz_next_object(derrimas_world *w, uint64_t from, derrimas_object *place) { return (void)w, OBJECT_AT(noted("next_object" N, from), place); }
 

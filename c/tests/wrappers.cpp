@@ -410,6 +410,7 @@ static const std::map<string, member> members = {
     {"outstanding", SHOWN(f.world.outstanding())},
     {"hold", DONE(f.world.hold(a.slot(0), a.entry(1)))},
     {"finish", DONE(f.world.finish(a.entry(0)))},
+    {"finish_and_take", SHOWN(f.world.finish_and_take(a.entry(0)))},
     {"forget", SHOWN(f.world.forget())},
     {"line_open", DONE(line(a.number(0), a.number(1)))},
     {"line_seat", DONE(f.line.seat())},

@@ -127,6 +127,14 @@ def with_kind(member, **names):
     return lambda world, kind, *rest: member(world, *rest, **({} if kind == 'default' else {names.get('name', 'kind'): kind}))
 
 
+def following(world, first):
+    """What comes after an entry, which itself stays as it is."""
+    given = entry_of(first)
+    next_one = world.finish_and_take(given)
+    assert shown(given) == shown(entry_of(first)), 'the entry that is finished has changed'
+    return shown(next_one)
+
+
 def invoked(world, how):
     procedure(world, how)
     return shown(world.invoke_finalizers())
@@ -363,6 +371,7 @@ MEMBERS = {
     'outstanding': lambda world: shown(world.outstanding()),
     'hold': lambda world, slot, first: done(world.hold(slot, entry_of(first))),
     'finish': lambda world, first: done(world.finish(entry_of(first))),
+    'finish_and_take': following,
     'forget': lambda world: shown(world.forget()),
     'next_object': lambda world: walked(world.objects()),
     'next_registration': lambda world: walked(world.registrations()),

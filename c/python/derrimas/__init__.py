@@ -79,7 +79,8 @@ def library() -> ctypes.CDLL:
         "register_object": [Slot, kind, n, n, c_uint8, POINTER(Registered)], "unregister": [Slot, POINTER(Old)],
         "link": [kind, Slot, n, Slot, POINTER(kind)], "unlink": [kind, Slot, n, POINTER(c_bool)], "move_link": [kind, Slot, n, Slot, n, POINTER(kind)],
         "begin": [], "mark": [n, POINTER(c_bool)], "pause": [POINTER(Passed)], "collect": [POINTER(Passed)], "take": [POINTER(Entry)],
-        "waiting": [POINTER(c_bool)], "outstanding": [POINTER(n)], "hold": [Slot, POINTER(Entry)], "finish": [POINTER(Entry)], "forget": [POINTER(n)], "forgotten": [POINTER(n)],
+        "waiting": [POINTER(c_bool)], "outstanding": [POINTER(n)], "hold": [Slot, POINTER(Entry)], "finish": [POINTER(Entry)],
+        "finish_and_take": [POINTER(Entry)], "forget": [POINTER(n)], "forgotten": [POINTER(n)],
         "next_object": [n, POINTER(Object)], "next_registration": [n, POINTER(Registration)], "next_link": [kind, n, POINTER(Linked)],
         "next_held": [n, POINTER(Entry)], "queued": [n, POINTER(Entry)], "count": [POINTER(Counts)],
         "finalize_all": [Slot, POINTER(PROCEDURE), ctypes.c_size_t, c_void_p, POINTER(n)],
@@ -216,6 +217,10 @@ class World(Owner):
     def finish(self, entry: Entry) -> None:
         """Finishes the entry, which isn't held any more."""
         self._call("finish", byref(entry))
+
+    def finish_and_take(self, entry: Entry) -> Optional[Entry]:
+        """Finishes the entry, and takes the next one: returns it, or None if there is none. The entry that is given stays as it is."""
+        return self._or_none(lambda: Entry.from_buffer_copy(entry), "finish_and_take")
 
     def finalize_all(self, slot: At) -> int:
         """For the end: runs the entries that wait, and then the finalizer of each registered object, by rank, then address, as no pass would. The slot retains

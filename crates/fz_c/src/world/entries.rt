@@ -7,7 +7,7 @@ ghost use Rattle.fz_model.specs.Events.{Make, Hold, Finish};
 ghost use Rattle.fz_c.specs.Told.{Calls, IsFound};
 ghost use Rattle.fz_c.specs.Values.{entry_of};
 ghost use Rattle.fz_c.specs.Places.{TellsEntry, TellsWord};
-ghost use Rattle.fz_c.specs.Takes.{Takes, Waits};
+ghost use Rattle.fz_c.specs.Takes.{FinishesAndTakes, Takes, Waits};
 ghost use Rattle.fz_c.specs.Forgets.{Forgets};
 
 use crate::entry::Entry;
@@ -94,4 +94,25 @@ pub extern "C" fn fz_finish(alloc: Global, world: &mut WorldHandle, entry: &Entr
 {
     let reply = behind!(alloc, world, NO_WORLD, |it| it.world.finish(&entry.read()));
     tell(reply)
+}
+
+/// `World::finish`, and then the next entry of the queue that isn't finished, in place of the one that was given.
+#[unsafe(no_mangle)]
+pub extern "C" fn fz_finish_and_take(
+    alloc: Global,
+    world: &mut WorldHandle,
+    entry: &mut Entry,
+) -> Code
+    ensures { FinishesAndTakes world.old.value (entry_of entry.old) world.new.value result entry.new (entry.new ≡ entry.old) }
+{
+    let reply = behind!(
+        alloc,
+        world,
+        NO_WORLD,
+        |it| it.finish_and_take(&entry.read())
+    );
+    match reply {
+        Ok(next) => tell_entry(next, entry),
+        Err(refusal) => refusal.code(),
+    }
 }

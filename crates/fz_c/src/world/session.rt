@@ -1,12 +1,15 @@
 //! What a handle points to.
 
-ghost use Rattle.std.specs.Prelude.{◌≡◌, ◌≤◌, length, nat_lt, slice_get};
+ghost use Rattle.std.specs.Prelude.{◌≡◌, ◌≤◌, length, nat_lt, slice_get, IfOk, OnErr};
 ghost use Rattle.fz_model.specs.declared.limits.TheConstants.{COUNT_LIMIT};
+ghost use Rattle.fz_model.specs.Events.{Finish};
+ghost use Rattle.fz_world.specs.Does.{Does};
 ghost use Rattle.fz_c.specs.Next.{IsNext, TakesNext};
 ghost use Rattle.fz_c.specs.Shows.{IsCounted, IsQueuedEntry};
+ghost use Rattle.fz_c.specs.Takes.{finished};
 
 use crate::world::shown::Counts;
-use fz_model::Entry;
+use fz_model::{Entry, Refusal};
 use fz_world::World;
 
 /// A world, and how many entries at the front of its queue were taken or were finished before they were taken.
@@ -41,6 +44,16 @@ impl WorldSession {
         let entry = self.pass_finished()?;
         self.taken += 1;
         Some(entry)
+    }
+
+    /// Finishes a held entry, and takes the next one, if there is one. Fails as `World::finish` does, and then takes none.
+    pub(crate) fn finish_and_take(&mut self, entry: &Entry) -> Result<Option<Entry>, Refusal>
+        ensures step { Does self.old.world (Finish entry.now) (finished result) self.new.world }
+        ensures refused { OnErr result (self.new ≡ self.old) }
+        ensures next { IfOk result (λ found. TakesNext self.new.world self.old.taken found self.new.taken) }
+    {
+        self.world.finish(entry)?;
+        Ok(self.next())
     }
 
     /// Whether the queue has entries that are neither taken nor finished.
