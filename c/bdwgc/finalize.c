@@ -91,10 +91,13 @@ static int GC_voidinvoke_finalizers(void);
 /* ---- the library's memory: from the system alone, so that it can be allocated under the lock, also if malloc is bdwgc's own */
 
 enum { HEAD = 16, SMALL = 2048, CLASSES = 8, CHUNK = 1 << 18 };
+#define MOST (SIZE_MAX / 4) /* the largest block */
 
-/* The header before each block: its size, or, in a free small block, the next free one. */
+/* The header before each block: its size and, of a large one, how much is mapped; or, in a free small block, the next free one. */
 union block {
-    size_t size;
+    struct {
+        size_t size, mapped;
+    } of;
     union block *next;
 };
 
@@ -131,6 +134,30 @@ static union block *small_block(unsigned at)
     return block;
 }
 
+/* How much to map for a large block: up to twice its size. Pages that are never touched take no memory, so a table that grows by an eighth at a time seldom
+ * calls the system. */
+static size_t mapping_for(size_t size)
+{
+    size_t mapped = 2 * SMALL;
+
+    while (mapped < HEAD + size)
+        mapped *= 2;
+    return mapped;
+}
+
+/* A large block, with less room to grow if the system has no more. */
+static union block *large_block(size_t size)
+{
+    size_t mapped = mapping_for(size);
+    union block *block = (union block *)pages(mapped);
+
+    if (!block)
+        block = (union block *)pages(mapped = HEAD + size);
+    if (block)
+        block->of.mapped = mapped;
+    return block;
+}
+
 static unsigned class_of(size_t size)
 {
     unsigned at = 0;
@@ -145,12 +172,12 @@ static void *allocate(void *nothing, size_t size)
     union block *block;
 
     (void)nothing;
-    if (size > SIZE_MAX / 2)
+    if (size > MOST)
         return NULL;
-    block = size <= SMALL ? small_block(class_of(size)) : (union block *)pages(HEAD + size);
+    block = size <= SMALL ? small_block(class_of(size)) : large_block(size);
     if (!block)
         return NULL;
-    block->size = size;
+    block->of.size = size;
     return (char *)block + HEAD;
 }
 
@@ -163,9 +190,9 @@ static void release(void *nothing, void *memory)
     if (!memory)
         return;
     block = (union block *)(void *)((char *)memory - HEAD);
-    size = block->size;
+    size = block->of.size;
     if (size > SMALL) {
-        (void)munmap(block, HEAD + size);
+        (void)munmap(block, block->of.mapped);
         return;
     }
     block->next = free_blocks[class_of(size)];
@@ -173,26 +200,44 @@ static void release(void *nothing, void *memory)
 }
 
 #ifdef MREMAP_MAYMOVE
-/* Remaps the pages instead of copying them to fresh ones. */
-static void *moved_pages(void *memory, size_t had, size_t size)
+/* Remaps the pages of a large block instead of copying them to fresh ones. */
+static union block *remapped(union block *block, size_t mapped)
 {
-    union block *block = (union block *)mremap((char *)memory - HEAD, HEAD + had, HEAD + size, MREMAP_MAYMOVE);
+    union block *moved = (union block *)mremap(block, block->of.mapped, mapped, MREMAP_MAYMOVE);
 
-    if ((void *)block == MAP_FAILED)
+    if ((void *)moved == MAP_FAILED)
         return NULL;
-    block->size = size;
-    return (char *)block + HEAD;
+    moved->of.mapped = mapped;
+    return moved;
+}
+
+/* Resizes a large block. One that becomes smaller gives its pages back. */
+static void *resized(union block *block, size_t size)
+{
+    union block *moved = block;
+
+    if (size < block->of.size)
+        moved = remapped(block, HEAD + size);
+    else if (HEAD + size > block->of.mapped)
+        moved = remapped(block, mapping_for(size));
+    if (!moved)
+        moved = remapped(block, HEAD + size);
+    if (!moved)
+        return NULL;
+    moved->of.size = size;
+    return (char *)moved + HEAD;
 }
 #endif
 
 static void *reallocate(void *nothing, void *memory, size_t size)
 {
-    size_t had = memory ? ((union block *)(void *)((char *)memory - HEAD))->size : 0;
+    union block *block = memory ? (union block *)(void *)((char *)memory - HEAD) : NULL;
+    size_t had = block ? block->of.size : 0;
     void *other;
 
 #ifdef MREMAP_MAYMOVE
-    if (had > SMALL && size > SMALL && size <= SIZE_MAX / 2)
-        return moved_pages(memory, had, size);
+    if (had > SMALL && size > SMALL && size <= MOST)
+        return resized(block, size);
 #endif
     other = allocate(nothing, size);
     if (!other)

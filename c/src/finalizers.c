@@ -78,6 +78,26 @@ static void note_pass(derrimas_finalizers_ages *ages)
  * it needs no function call. Other models may allocate on first access by malloc, which may be a collector's own. */
 static __thread const derrimas_allocator *current __attribute__((tls_model("initial-exec")));
 
+static void *allocate_by_libc(void *data, size_t size)
+{
+    (void)data;
+    return malloc(size);
+}
+
+static void *reallocate_by_libc(void *data, void *memory, size_t size)
+{
+    (void)data;
+    return realloc(memory, size);
+}
+
+static void release_by_libc(void *data, void *memory)
+{
+    (void)data;
+    free(memory);
+}
+
+static const derrimas_allocator libc = {allocate_by_libc, reallocate_by_libc, release_by_libc, NULL};
+
 /* The result for the proved part. If there is no memory, it points to a byte that nothing uses. */
 static rattle_tried tried(void *memory)
 {
@@ -104,15 +124,27 @@ rattle_tried rattle_alloc(size_t size, size_t align)
     return tried(memory);
 }
 
+/* If nothing in the block is kept, a new one takes its place: most lists that grow are empty, and realloc would copy their memory all the same. */
+static void *resized_by_libc(void *memory, size_t kept, size_t size)
+{
+    void *other;
+
+    if (kept)
+        return realloc(memory, size);
+    other = malloc(size);
+    if (other)
+        free(memory);
+    return other;
+}
+
 rattle_tried rattle_realloc(void *memory, size_t kept, size_t size, size_t align)
 {
     const derrimas_allocator *own = current;
     const size_t wanted = size ? size : align;
     void *other;
 
-    (void)kept;
-    if (!own)
-        return tried(realloc(memory, wanted));
+    if (!own || own->reallocate == reallocate_by_libc)
+        return tried(resized_by_libc(memory, kept, wanted));
     current = NULL;
     other = own->reallocate(own->data, memory, wanted);
     current = own;
@@ -140,26 +172,6 @@ static code after_memory(code it)
     current = NULL;
     return it;
 }
-
-static void *allocate_by_libc(void *data, size_t size)
-{
-    (void)data;
-    return malloc(size);
-}
-
-static void *reallocate_by_libc(void *data, void *memory, size_t size)
-{
-    (void)data;
-    return realloc(memory, size);
-}
-
-static void release_by_libc(void *data, void *memory)
-{
-    (void)data;
-    free(memory);
-}
-
-static const derrimas_allocator libc = {allocate_by_libc, reallocate_by_libc, release_by_libc, NULL};
 
 /* ---- opening */
 
