@@ -245,13 +245,14 @@ public:
     template <typename Run> std::uint64_t invoke(Run run)
     {
         std::uint64_t taken = 0;
-        for (auto next = take(); next; taken++) {
+        for (auto next = take(); next;) {
+            taken++;
             run(*this, *next);
             const derrimas_code code = derrimas_finish_and_take(&handle_, &*next);
             if (code == DERRIMAS_NOT_HELD)
                 next = take();
             else if (!found(code))
-                break;
+                next.reset();
         }
         return taken;
     }

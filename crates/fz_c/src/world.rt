@@ -18,7 +18,9 @@ pub use crate::entry::Entry;
 pub use crate::old::Old;
 pub use codes::Code;
 pub use collections::{Passed, fz_begin, fz_collect, fz_mark, fz_pause};
-pub use entries::{fz_finish, fz_finish_and_take, fz_forget, fz_hold, fz_outstanding, fz_take, fz_waiting};
+pub use entries::{
+    fz_finish, fz_finish_and_take, fz_forget, fz_hold, fz_outstanding, fz_take, fz_waiting,
+};
 pub use finalizers::{
     Registered, fz_register, fz_register_ignore_self, fz_register_no_order, fz_unregister,
 };

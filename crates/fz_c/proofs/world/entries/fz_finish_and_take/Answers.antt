@@ -15,12 +15,12 @@ pub returns-in-Ok : goal.returns-in-Ok
 returns-in-Ok c =
     let did = c.finish_and_take-reply.ensures in
     subst (λ (e : answers.Entry). FinishesAndTakes c.args.world.now.value e c.put.new.handle.value c.tell_entry.result c.tell_entry.new.entry (c.tell_entry.new.entry ≡ c.args.entry.now)) c.read.ensures
-      (finished_and_taken _ _ _ _ _ _ _ c.finish_and_take-reply.result c.deref_mut.ensures.value c.in-Some.ensures.taken c.put.ensures did.step did.refused did.next
-        (subst (λ (r : Result (Option answers.Entry) Refusal). IsNextTold r c.tell_entry.result c.tell_entry.new.entry (c.tell_entry.new.entry ≡ c.args.entry.now)) (sym c.in-Ok.is) c.tell_entry.ensures))
+    (finished_and_taken _ _ _ _ _ _ _ c.finish_and_take-reply.result c.deref_mut.ensures.value c.in-Some.ensures.taken c.put.ensures did.step did.refused did.next
+    (subst (λ (r : Result (Option answers.Entry) Refusal). IsNextTold r c.tell_entry.result c.tell_entry.new.entry (c.tell_entry.new.entry ≡ c.args.entry.now)) (sym c.in-Ok.is) c.tell_entry.ensures))
 
 pub returns-in-Err : goal.returns-in-Err
 returns-in-Err c =
     let did = c.finish_and_take-reply.ensures in
     subst (λ (e : answers.Entry). FinishesAndTakes c.args.world.now.value e c.put.new.handle.value c.code.result c.args.entry.now (c.args.entry.now ≡ c.args.entry.now)) c.read.ensures
-      (finished_and_taken _ _ _ _ _ _ _ c.finish_and_take-reply.result c.deref_mut.ensures.value c.in-Some.ensures.taken c.put.ensures did.step did.refused did.next
-        (subst (λ (r : Result (Option answers.Entry) Refusal). IsNextTold r c.code.result c.args.entry.now (c.args.entry.now ≡ c.args.entry.now)) (sym c.in-Err.is) (c.code.ensures, refl)))
+    (finished_and_taken _ _ _ _ _ _ _ c.finish_and_take-reply.result c.deref_mut.ensures.value c.in-Some.ensures.taken c.put.ensures did.step did.refused did.next
+    (subst (λ (r : Result (Option answers.Entry) Refusal). IsNextTold r c.code.result c.args.entry.now (c.args.entry.now ≡ c.args.entry.now)) (sym c.in-Err.is) (c.code.ensures, refl)))
