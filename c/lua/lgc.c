@@ -24,11 +24,8 @@
 /* Makes a pass, or queues everything that is registered. */
 static void separatetobefnz(global_State *g, int all);
 
-/* The number of waiting entries, which Lua counts as work. */
-static lu_mem waiting(global_State *g);
-
-/* Marks the objects of waiting entries at the beginning of a collection. */
-static void markbeingfnz(global_State *g);
+/* Marks the objects of waiting entries, in queue order: at the beginning of a collection, and after its pass. Returns their number, which Lua counts as work. */
+static lu_mem markbeingfnz(global_State *g);
 
 /* Takes the object whose finalizer is called next. */
 static GCObject *udata2finalize(global_State *g);
@@ -294,13 +291,12 @@ static bool is_marked(void *data, uint64_t number)
     return !iswhite(object_of(((global_State *)data)->finalizing, number));
 }
 
-/* Marks the object. Lua marks everything reachable from these objects after the pass: no later question of the pass reads marks. */
+/* Right after the pass markbeingfnz marks the objects of its entries, in queue order: the order in which Lua marks decides how much work its weak tables take.
+ * A pass asks in no certain order. None of its later questions reads marks. */
 static void mark(void *data, uint64_t number)
 {
-    global_State *g = (global_State *)data;
-    GCObject *object = object_of(g->finalizing, number);
-
-    markobject(g, object);
+    (void)data;
+    (void)number;
 }
 
 /* The marks of a region. In a young collection old objects are always marked, so they aren't read. */
@@ -382,29 +378,24 @@ static int has_waiting(const global_State *g)
     return g->finalizing && derrimas_finalizers_has_waiting(&g->finalizing->finalizers);
 }
 
-static lu_mem waiting(global_State *g)
-{
-    derrimas_finalizers_counts counts = {0};
-
-    if (g->finalizing)
-        (void)derrimas_finalizers_count(&g->finalizing->finalizers, &counts);
-    return counts.waiting;
-}
-
-static void markbeingfnz(global_State *g)
+static lu_mem markbeingfnz(global_State *g)
 {
     struct finalizing *of = g->finalizing;
     uint64_t from = 0, objects[PLACES];
+    lu_mem marked = 0;
     size_t i, count;
 
     if (!of)
-        return;
-    while (derrimas_finalizers_roots(&of->finalizers, DERRIMAS_FINALIZERS_HELD_DATA, &from, objects, PLACES, &count) == DERRIMAS_FINALIZERS_OK)
+        return 0;
+    while (derrimas_finalizers_roots(&of->finalizers, DERRIMAS_FINALIZERS_HELD_DATA, &from, objects, PLACES, &count) == DERRIMAS_FINALIZERS_OK) {
         for (i = 0; i < count; i++) {
             GCObject *object = (GCObject *)(uintptr_t)objects[i];
 
             markobject(g, object);
         }
+        marked += count;
+    }
+    return marked;
 }
 
 static GCObject *udata2finalize(global_State *g)

@@ -74,7 +74,6 @@ def collector(text):
     lgc.put_before('atomic2gen', r'\bfinishgencycle\b', 'all_become_old(g); ')
     lgc.without_statements('enterinc', LISTS, 3)
     lgc.put_before('enterinc', r'\bg->gcstate\b', 'none_is_old(g); ')
-    lgc.put('atomic', r'\bmarkbeingfnz\b', 'waiting')
     # everything that is swept is in one list
     lgc.put('singlestep', r'GCSswpfinobj, &g->finobj\b', 'GCSswpend, NULL')
     lgc.without_case('singlestep', 'GCSswpfinobj')
