@@ -61,7 +61,7 @@ class Sums:
         sources = collections.defaultdict(list)
         for it in left_out:
             sources[it.file].append(it)
-        read = [it for it in owner.paths() if os.path.dirname(it) not in proofs]
+        read = [it for it in owner.paths if os.path.dirname(it) not in proofs]
         needs = [owner.crate.name, sorted(it.name for it in owner.crate.below()), sorted(owner.crate.of_kit)]
         return sum_of(needs, [self.file(owner, it, sources[it]) for it in read])
 
@@ -76,7 +76,7 @@ class Sums:
         owner = edit.owner
         laws = owner.laws if edit.laws else []
         tried = [it for it in owner.functions if it in edit.functions or it.path in laws]
-        left_out = [] if is_of_whole else [it for it in owner.functions if it.is_plain and it not in tried and owner.has_proof_of_its_own(it)]
+        left_out = [] if is_of_whole else [it for it in owner.functions if it.is_plain and it not in tried and it in owner.with_proofs_of_their_own]
         faces = [self.face(self.owners[it.name]) for it in sorted(owner.crate.below(), key=lambda it: it.name)]
         text = without_comments(edit.path, text_of(edit.path).split('\n')) + [f"laws: {', '.join(laws)}"] * bool(laws)
         return sum_of(self.rules, 'whole' if is_of_whole else 'functions', edit.name, text, self.crate(owner, left_out), faces)
