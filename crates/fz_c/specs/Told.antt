@@ -4,7 +4,10 @@ use Rattle.std.specs.Prelude.{◌≡◌, ℕ, Option, Some, None, Result, Ok, Er
 use Rattle.fz_model.specs.declared.refusal.Refusal.{Refusal}
 use Rattle.fz_model.specs.Refusals.{code_of}
 use Rattle.fz_model.specs.Events.{Event, Answer}
+use Rattle.fz_model.specs.declared.places.Slot.{Slot}
+use Rattle.fz_world.specs.Addresses.{ByAddress, ByAddresses}
 use Rattle.fz_world.specs.Does.{Does}
+use Rattle.fz_world.specs.World.{WorldView}
 use Rattle.fz_c.specs.declared.world.codes.TheConstants.{OK, NO_WORLD, EMPTY}
 use Rattle.fz_c.specs.Owned.{Held}
 
@@ -32,6 +35,27 @@ Calls (Some old) e (Some new) code told kept = Called old e new code told kept
 Calls None e None code told kept = (code ≡ NO_WORLD) × kept
 Calls (Some old) e None code told kept = ⊥
 Calls None e (Some new) code told kept = ⊥
+
+-- the same of a call that is no event, as one by an address: `Is` says how the world changes
+pub record Changed {X : Type 0} (old : Held) (Is : WorldView → Result X Refusal → WorldView → Type 0) (new : Held) (code : ℕ) (told : X → Type 0) (kept : Type 0) : Type 0 where
+  pub reply : Result X Refusal
+  pub is : Is old.world reply new.world
+  pub refused : OnErr reply (new.world ≡ old.world)
+  pub taken : new.taken ≡ old.taken
+  pub is_told : IsTold reply code told kept
+
+unfoldable pub Changes : {X : Type 0} → Option Held → (WorldView → Result X Refusal → WorldView → Type 0) → Option Held → ℕ → (X → Type 0) → Type 0 → Type 0
+Changes (Some old) Is (Some new) code told kept = Changed old Is new code told kept
+Changes None Is None code told kept = (code ≡ NO_WORLD) × kept
+Changes (Some old) Is None code told kept = ⊥
+Changes None Is (Some new) code told kept = ⊥
+
+-- a call by an address, and one by two
+abbrev pub by_one : {X : Type 0} → ℕ → (Result X Refusal → WorldView → Slot → WorldView → Type 0) → WorldView → Result X Refusal → WorldView → Type 0
+by_one address BySlot old reply new = ByAddress old address new (BySlot reply) × (new.frames ≡ old.frames)
+
+abbrev pub by_two : {X : Type 0} → ℕ → ℕ → (Result X Refusal → WorldView → Slot → Slot → WorldView → Type 0) → WorldView → Result X Refusal → WorldView → Type 0
+by_two first second BySlots old reply new = ByAddresses old first second new (BySlots reply) × (new.frames ≡ old.frames)
 
 -- a reader's call through a handle, which changes nothing
 unfoldable pub Looks : Option Held → Option Held → ℕ → (Held → Type 0) → Type 0 → Type 0

@@ -1,6 +1,7 @@
 //! The calls and readers of a world as C exports, which `c/include/derrimas.h` declares. A code is 0, the number of the world's refusal, or one of the C
 //! interface itself.
 
+mod by_address;
 mod codes;
 mod collections;
 mod entries;
@@ -16,6 +17,7 @@ mod worlds;
 
 pub use crate::entry::Entry;
 pub use crate::old::Old;
+pub use by_address::{fz_link_at, fz_move_link_at, fz_register_at, fz_unlink_at, fz_unregister_at};
 pub use codes::Code;
 pub use collections::{Passed, fz_begin, fz_collect, fz_mark, fz_pause};
 pub use entries::{

@@ -14,3 +14,4 @@ pub mod Plain
 pub mod Linking
 pub mod Leaving
 pub mod Lawful
+pub mod Addresses

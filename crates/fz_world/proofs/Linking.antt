@@ -1,11 +1,11 @@
 -- Links of one kind come, go and are moved; everything else of a world stays.
-use Rattle.std.proofs.Common.{◌≡◌, ◌⊎◌, ℕ, Bool, true, List, [], ◌∷◌, if◌then◌else◌, Option, Some, None, Result, Ok, Err, IsTrue, refl, sym, ap, subst, ◌∙◌}
+use Rattle.std.proofs.Common.{◌≡◌, ◌⊎◌, ◌++◌, ℕ, Bool, true, List, [], ◌∷◌, if◌then◌else◌, Option, Some, None, Result, Ok, Err, IsTrue, refl, sym, ap, subst, ◌∙◌}
 use Rattle.std.specs.FinMap.{contains_key, insert}
 use Rattle.fz_model.specs.declared.answers.LinkAnswer.{LinkAnswer}
 use Rattle.fz_model.specs.declared.call.Call.TheVariants.{Link}
 use Rattle.fz_model.specs.declared.refusal.Refusal.{Refusal}
 use Rattle.fz_model.specs.declared.refusal.Refusal.TheVariants.{NoMemory}
-use Rattle.fz_model.specs.Causes.{IsJudgedOrLacks, first_cause, full}
+use Rattle.fz_model.specs.Causes.{IsJudgedOrLacks, first_cause, full, slot_causes}
 use Rattle.fz_model.specs.Memory.{slot_word, address_of}
 use Rattle.fz_model.specs.Places.{slot_at, place_at}
 use Rattle.fz_model.specs.declared.kinds.LinkKind.{LinkKind}
@@ -59,7 +59,7 @@ with_same s Long = refl
 
 -- a word is linked, or the call is refused
 module _ (w : Inside) (which : LinkKind) (frame slot offset target_frame target_slot : ℕ) (mid new : View) (roomier : mid.state ≡ w.finalizers.state) (kept : new.memory ≡ w.finalizers.memory)
-    (ends : first_cause (end_causes w.frames w.marked.heap.objects (place_at frame slot offset) (slot_at target_frame target_slot)) ≡ None)
+    (ends : first_cause (slot_causes w.frames (slot_at frame slot) ++ (slot_causes w.frames (slot_at target_frame target_slot) ++ end_causes w.marked.heap.objects (slot_word w.frames (slot_at frame slot)) offset (slot_word w.frames (slot_at target_frame target_slot)))) ≡ None)
     (word target : ℕ) (word_is : word ≡ address_of w.frames (place_at frame slot offset)) (target_is : target ≡ slot_word w.frames (slot_at target_frame target_slot)) (same : new.state ≡ with_links mid.state which (links_of new.state which)) where
   abbrev event : model.Event
   event = model.Make (Link which (place_at frame slot offset) (slot_at target_frame target_slot))

@@ -1,10 +1,9 @@
 //! Disappearing links.
 
-ghost use Rattle.std.specs.Prelude.{◌≡◌, ◌≤◌, [], ◌∷◌, IfOk, IfErr, OnErr, IsTrue};
+ghost use Rattle.std.specs.Prelude.{◌≡◌, ◌≤◌, ◌+◌, [], ◌∷◌, IfOk, IfErr, OnOk, OnErr, IsTrue};
 ghost use Rattle.std.specs.Option.{IsNone};
 ghost use Rattle.std.specs.FinMap.{get, contains_key};
 ghost use Rattle.fz_model.specs.declared.limits.TheConstants.{HEAP_START};
-ghost use Rattle.fz_model.specs.Memory.{slot_word, address_of};
 ghost use Rattle.fz_model.specs.Causes.{IsJudgedBy, IsJudgedOrLacks, full};
 ghost use Rattle.fz_model.specs.declared.call.Call.TheVariants as calls;
 ghost use Rattle.fz_model.specs.Places.{slot_at, place_at};
@@ -15,46 +14,46 @@ ghost use Rattle.fz_world.specs.World.{KeepsMarks};
 ghost use Rattle.fz_world.specs.Does.{Does};
 ghost use Rattle.fz_world.specs.Links.{LinksTo, link_at, two_place_causes, end_causes};
 
-use crate::frames::Frames;
 use crate::registrations::{check_start, first_entries};
 use crate::world::World;
 use fz_finalizers::Finalizers;
 use fz_heap::Heap;
-use fz_model::{Addr, LinkAnswer, LinkKind, MoveAnswer, Place, Refusal, Slot, TABLE_LIMIT};
+use fz_model::{Addr, LinkAnswer, LinkKind, MoveAnswer, Refusal, Slot, TABLE_LIMIT, Word};
 
-/// The addresses of two places. Fails with, in this order: `BadSlot` for either slot, then `NotPointer` and `OutsideObject` for the first place, then the
-/// same for the second.
-fn places(frames: &Frames, heap: &Heap, from: Place, to: Place) -> Result<(Addr, Addr), Refusal>
-    ensures judged { IsJudgedBy (two_place_causes frames.now heap.now.objects from to) result }
-    ensures first { IfOk result (λ places. places.0 ≡ address_of frames.now from) }
-    ensures second { IfOk result (λ places. places.1 ≡ address_of frames.now to) }
+/// The addresses of two places, each an offset after a word. Fails with, in this order: `NotPointer` and `OutsideObject` for the first place, then the same
+/// for the second.
+pub(crate) fn places(
+    heap: &Heap,
+    word: Word,
+    offset: u64,
+    to: Word,
+    to_offset: u64,
+) -> Result<(Addr, Addr), Refusal>
+    ensures judged { IsJudgedBy (two_place_causes heap.now.objects word offset to to_offset) result }
+    ensures first { IfOk result (λ places. places.0 ≡ word + offset) }
+    ensures second { IfOk result (λ places. places.1 ≡ to + to_offset) }
     ensures high { IfOk result (λ places. HEAP_START ≤ places.1) }
 {
-    let word = frames.get(from.slot)?;
-    let to_word = frames.get(to.slot)?;
-    let first = heap.place(word, from.offset)?;
-    let second = heap.place(to_word, to.offset)?;
+    let first = heap.place(word, offset)?;
+    let second = heap.place(to, to_offset)?;
     Ok((first, second))
 }
 
-/// The two ends of a link: the address of the place, and the address of the target. Fails with, in this order: `BadSlot` for either slot, then `NotPointer`
-/// and `OutsideObject` for the place, then `NotPointer` and `NotStart` for the target.
-fn ends(frames: &Frames, heap: &Heap, place: Place, target: Slot) -> Result<(Addr, Addr), Refusal>
-    ensures judged { IsJudgedBy (end_causes frames.now heap.now.objects place target) result }
-    ensures place { IfOk result (λ ends. ends.0 ≡ address_of frames.now place) }
-    ensures target { IfOk result (λ ends. ends.1 ≡ slot_word frames.now target) }
-    ensures object { IfOk result (λ ends. IsTrue (contains_key heap.now.objects ends.1)) }
-    ensures high { IfOk result (λ ends. (HEAP_START ≤ ends.0) × (HEAP_START ≤ ends.1)) }
+/// The address of a link's place, which is an offset after a word. Fails with, in this order: `NotPointer` and `OutsideObject` for the place, then
+/// `NotPointer` and `NotStart` for the target.
+pub(crate) fn ends(heap: &Heap, word: Word, offset: u64, target: Word) -> Result<Addr, Refusal>
+    ensures judged { IsJudgedBy (end_causes heap.now.objects word offset target) result }
+    ensures place { IfOk result (λ link. link ≡ word + offset) }
+    ensures object { OnOk result (IsTrue (contains_key heap.now.objects target)) }
+    ensures high { IfOk result (λ link. (HEAP_START ≤ link) × (HEAP_START ≤ target)) }
 {
-    let word = frames.get(place.slot)?;
-    let start = frames.get(target)?;
-    let link = heap.place(word, place.offset)?;
-    check_start(heap, start)?;
-    Ok((link, start))
+    let link = heap.place(word, offset)?;
+    check_start(heap, target)?;
+    Ok(link)
 }
 
 /// Reserves room before the first link of a kind, so that the table seldom has to grow.
-fn make_first_room(finalizers: &mut Finalizers, which: LinkKind, heap: &Heap)
+pub(crate) fn make_first_room(finalizers: &mut Finalizers, which: LinkKind, heap: &Heap)
     ensures state { finalizers.new.state ≡ finalizers.old.state }
     ensures memory { IsTrue finalizers.old.memory.whole → finalizers.new.memory ≡ finalizers.old.memory }
 {
@@ -81,7 +80,7 @@ fn check_limit(finalizers: &Finalizers, which: LinkKind, word: Addr) -> Result<(
 }
 
 /// Links a word to a target. Fails as `check_limit` does, and then with `NoMemory`.
-fn enroll(
+pub(crate) fn enroll(
     finalizers: &mut Finalizers,
     which: LinkKind,
     word: Addr,
@@ -100,7 +99,12 @@ fn enroll(
 }
 
 /// Moves a link to another word of the heap; its target stays the same. Takes no memory.
-fn move_within(finalizers: &mut Finalizers, which: LinkKind, word: Addr, to: Addr) -> MoveAnswer
+pub(crate) fn move_within(
+    finalizers: &mut Finalizers,
+    which: LinkKind,
+    word: Addr,
+    to: Addr,
+) -> MoveAnswer
     requires { HEAP_START ≤ to }
     ensures answer { result ≡ move_answer (links_of finalizers.old.state which) word to }
     ensures moved { finalizers.new.state ≡ with_links finalizers.old.state which (moved_to (links_of finalizers.old.state which) word to (get (links_of finalizers.old.state which) word)) }
@@ -135,17 +139,12 @@ impl World {
         ensures growth { IfErr result (λ r. r ≡ Refusal.NoMemory → IsNone (link_at self.old.core which (place_at frame slot offset))) }
         ensures marks { KeepsMarks self.old self.new }
     {
-        let place = Place {
-            slot: Slot { frame, slot },
-            offset,
-        };
-        let target = Slot {
+        let word = self.frames.get(Slot { frame, slot })?;
+        let target = self.frames.get(Slot {
             frame: target_frame,
             slot: target_slot,
-        };
-        let (link, target) = ends(&self.frames, &self.marked.heap, place, target)?;
-        make_first_room(&mut self.finalizers, which, &self.marked.heap);
-        enroll(&mut self.finalizers, which, link, target)
+        })?;
+        self.link_at(which, word, offset, target)
     }
 
     /// Removes the link at `offset` words after the slot's word, and returns whether there was one. This is `GC_unregister_disappearing_link` or
@@ -165,8 +164,7 @@ impl World {
         ensures marks { KeepsMarks self.old self.new }
     {
         let word = self.frames.get(Slot { frame, slot })?;
-        let link = self.marked.heap.place(word, offset)?;
-        Ok(self.finalizers.unlink(which, link))
+        self.unlink_at(which, word, offset)
     }
 
     /// Moves a link from one place to another; its target stays the same, and no word changes. This is `GC_move_disappearing_link` or `GC_move_long_link`.
@@ -190,18 +188,11 @@ impl World {
         ensures refused { OnErr result (self.new ≡ self.old) }
         ensures marks { KeepsMarks self.old self.new }
     {
-        let place = Place {
-            slot: Slot { frame, slot },
-            offset,
-        };
-        let to = Place {
-            slot: Slot {
-                frame: to_frame,
-                slot: to_slot,
-            },
-            offset: to_offset,
-        };
-        let (old, new) = places(&self.frames, &self.marked.heap, place, to)?;
-        Ok(move_within(&mut self.finalizers, which, old, new))
+        let word = self.frames.get(Slot { frame, slot })?;
+        let to = self.frames.get(Slot {
+            frame: to_frame,
+            slot: to_slot,
+        })?;
+        self.move_link_at(which, word, offset, to, to_offset)
     }
 }

@@ -24,7 +24,7 @@ use fz_model::{
 const LEAST_ROOM: u64 = 1024;
 
 /// Whether the word is zero, or lies outside the heap.
-fn is_off_heap(heap: &Heap, word: Word) -> bool
+pub(crate) fn is_off_heap(heap: &Heap, word: Word) -> bool
     ensures { result ≡ is_off_heap heap.now.blocks word }
 {
     word < HEAP_START || word >= HEAP_START + BLOCK_WORDS * heap.blocks()
@@ -63,7 +63,7 @@ pub(crate) fn first_entries(heap: &Heap, passes: u64) -> usize
 }
 
 /// Reserves room before the first registration, for registrations and their entries, so that table and queue seldom have to grow.
-fn make_first_room(finalizers: &mut Finalizers, heap: &Heap)
+pub(crate) fn make_first_room(finalizers: &mut Finalizers, heap: &Heap)
     ensures state { finalizers.new.state ≡ finalizers.old.state }
     ensures memory { IsTrue finalizers.old.memory.whole → finalizers.new.memory ≡ finalizers.old.memory }
 {
@@ -100,7 +100,7 @@ fn entered(finalizer: Finalizer) -> fz_finalizers::Finalizer
 
 /// Registers an object's finalizer, and returns the number and what was replaced. Fails as `check_limits` does, and then with `NoMemory`. A failed call
 /// leaves at most reserved room behind.
-fn enroll(
+pub(crate) fn enroll(
     finalizers: &mut Finalizers,
     object: Addr,
     finalizer: Finalizer,
@@ -150,13 +150,7 @@ impl World {
         ensures { RegistersFinalizer self.old slot finalizer result self.new }
     {
         let word = self.frames.get(slot)?;
-        if is_off_heap(&self.marked.heap, word) {
-            return Ok(RegAnswer::Outside);
-        }
-        check_start(&self.marked.heap, word)?;
-        make_first_room(&mut self.finalizers, &self.marked.heap);
-        let (number, old) = enroll(&mut self.finalizers, word, finalizer)?;
-        Ok(RegAnswer::Number(number, old))
+        self.register_at(word, finalizer)
     }
 
     /// Removes the registration of the object at the slot's word, and returns its procedure and client data, if it was registered. This is
@@ -170,10 +164,6 @@ impl World {
         ensures marks { KeepsMarks self.old self.new }
     {
         let word = self.frames.get(Slot { frame, slot })?;
-        if is_off_heap(&self.marked.heap, word) {
-            return Ok(None);
-        }
-        check_start(&self.marked.heap, word)?;
-        Ok(self.finalizers.unregister(word))
+        self.unregister_at(word)
     }
 }

@@ -43,7 +43,10 @@ pub extern "C" fn fz_register(
     register(alloc, world, slot, proc, cd, rank, registered, kind)
 }
 
-fn tell_registered(reply: Result<RegAnswer, Refusal>, registered: &mut Registered) -> Code
+pub(crate) fn tell_registered(
+    reply: Result<RegAnswer, Refusal>,
+    registered: &mut Registered,
+) -> Code
     ensures { IsTold reply result (TellsRegistered registered.new) (registered.new ≡ registered.old) }
 {
     match reply {
@@ -125,7 +128,7 @@ pub extern "C" fn fz_register_no_order(
     register(alloc, world, slot, proc, cd, rank, registered, kind)
 }
 
-fn tell_old(reply: Result<Option<fz_model::Old>, Refusal>, old: &mut Old) -> Code
+pub(crate) fn tell_old(reply: Result<Option<fz_model::Old>, Refusal>, old: &mut Old) -> Code
     ensures { IsTold reply result (TellsOld old.new) (old.new ≡ old.old) }
 {
     match reply {

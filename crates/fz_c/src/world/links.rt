@@ -25,7 +25,7 @@ const DUPLICATE: u8 = 1;
 /// `GC_NOT_FOUND`
 const NOT_FOUND: u8 = 4;
 
-fn tell_link_answer(reply: Result<LinkAnswer, Refusal>, answer: &mut u8) -> Code
+pub(crate) fn tell_link_answer(reply: Result<LinkAnswer, Refusal>, answer: &mut u8) -> Code
     ensures { IsTold reply result (TellsLinkAnswer answer.new) (answer.new ≡ answer.old) }
 {
     match reply {
@@ -40,7 +40,7 @@ fn tell_link_answer(reply: Result<LinkAnswer, Refusal>, answer: &mut u8) -> Code
     }
 }
 
-fn tell_unlinked(reply: Result<bool, Refusal>, was: &mut bool) -> Code
+pub(crate) fn tell_unlinked(reply: Result<bool, Refusal>, was: &mut bool) -> Code
     ensures { IsTold reply result (TellsUnlinked was.new) (was.new ≡ was.old) }
 {
     match reply {
@@ -52,7 +52,7 @@ fn tell_unlinked(reply: Result<bool, Refusal>, was: &mut bool) -> Code
     }
 }
 
-fn tell_moved(reply: Result<MoveAnswer, Refusal>, answer: &mut u8) -> Code
+pub(crate) fn tell_moved(reply: Result<MoveAnswer, Refusal>, answer: &mut u8) -> Code
     ensures { IsTold reply result (TellsMoved answer.new) (answer.new ≡ answer.old) }
 {
     match reply {
