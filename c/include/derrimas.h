@@ -362,6 +362,28 @@ DERRIMAS_CHECKED derrimas_code derrimas_move_link(derrimas_world *world, derrima
                                                   uint64_t offset, derrimas_slot to, uint64_t to_offset,
                                                   derrimas_link_answer *answer) DERRIMAS_NONNULL(1);
 
+/* ---- finalizers and links by address */
+
+/* The same calls for a program that has the address of an object, such as what derrimas_alloc returned or derrimas_load
+ * found: no slot has to hold it. An address retains nothing. So make these calls while something else retains the
+ * object, or before the next collection begins. Objects never move.
+ *
+ * derrimas_register_at registers a finalizer of the object that starts at `address`, as derrimas_register_object does,
+ * and derrimas_unregister_at removes it. The other three are derrimas_link, derrimas_unlink and derrimas_move_link: the
+ * link's word is at `address` plus the offset, and its target is the object that starts at `target`.
+ * Refused: as the calls by slots, but never DERRIMAS_BAD_SLOT. */
+DERRIMAS_CHECKED derrimas_code derrimas_register_at(derrimas_world *world, uint64_t address, derrimas_kind kind, uint64_t proc,
+                                                    uint64_t cd, uint8_t rank, derrimas_registered *registered)
+    DERRIMAS_NONNULL(1);
+derrimas_code derrimas_unregister_at(derrimas_world *world, uint64_t address, derrimas_old *old) DERRIMAS_NONNULL(1);
+DERRIMAS_CHECKED derrimas_code derrimas_link_at(derrimas_world *world, derrimas_links kind, uint64_t address, uint64_t offset,
+                                                uint64_t target, derrimas_link_answer *answer) DERRIMAS_NONNULL(1);
+derrimas_code derrimas_unlink_at(derrimas_world *world, derrimas_links kind, uint64_t address, uint64_t offset, bool *was)
+    DERRIMAS_NONNULL(1);
+DERRIMAS_CHECKED derrimas_code derrimas_move_link_at(derrimas_world *world, derrimas_links kind, uint64_t address,
+                                                     uint64_t offset, uint64_t to, uint64_t to_offset,
+                                                     derrimas_link_answer *answer) DERRIMAS_NONNULL(1);
+
 /* ---- collections */
 
 /* A whole cycle with its pass: GC_gcollect. It needs no memory. What the pass did is in *passed, which may be NULL.

@@ -179,6 +179,42 @@ public:
         return static_cast<link_answer>(answer);
     }
 
+    /* The same by the addresses of objects, which no slot has to hold. */
+    registered register_at(address object, kind kind, std::uint64_t proc, std::uint64_t cd, std::uint8_t rank = 0)
+    {
+        derrimas_registered registered;
+        check(derrimas_register_at(&handle_, object, static_cast<derrimas_kind>(kind), proc, cd, rank, &registered));
+        return registered;
+    }
+
+    std::optional<old> unregister_at(address object)
+    {
+        derrimas_old old;
+        check(derrimas_unregister_at(&handle_, object, &old));
+        return old.was ? std::optional(old) : std::nullopt;
+    }
+
+    link_answer link_at(links kind, address object, std::uint64_t offset, address target)
+    {
+        derrimas_link_answer answer;
+        check(derrimas_link_at(&handle_, static_cast<derrimas_links>(kind), object, offset, target, &answer));
+        return static_cast<link_answer>(answer);
+    }
+
+    bool unlink_at(links kind, address object, std::uint64_t offset)
+    {
+        bool was;
+        check(derrimas_unlink_at(&handle_, static_cast<derrimas_links>(kind), object, offset, &was));
+        return was;
+    }
+
+    link_answer move_link_at(links kind, address object, std::uint64_t offset, address to, std::uint64_t to_offset)
+    {
+        derrimas_link_answer answer;
+        check(derrimas_move_link_at(&handle_, static_cast<derrimas_links>(kind), object, offset, to, to_offset, &answer));
+        return static_cast<link_answer>(answer);
+    }
+
     passed collect()
     {
         derrimas_passed passed;

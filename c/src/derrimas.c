@@ -92,17 +92,32 @@ derrimas_code derrimas_register(derrimas_world *world, derrimas_slot slot, derri
     }
 }
 
+/* The code of a registration that has to find an object. */
+static derrimas_code made(derrimas_code code, const derrimas_registered *found, derrimas_registered *registered)
+{
+    if (code == DERRIMAS_OK && !found->made)
+        return DERRIMAS_NO_OBJECT;
+    if (code == DERRIMAS_OK && registered)
+        *registered = *found;
+    return code;
+}
+
 derrimas_code derrimas_register_object(derrimas_world *world, derrimas_slot slot, derrimas_kind kind, uint64_t proc, uint64_t cd, uint8_t rank,
                                        derrimas_registered *registered)
 {
     derrimas_registered found;
-    derrimas_code code = derrimas_register(world, slot, kind, proc, cd, rank, &found);
 
-    if (code == DERRIMAS_OK && !found.made)
-        return DERRIMAS_NO_OBJECT;
-    if (code == DERRIMAS_OK && registered)
-        *registered = found;
-    return code;
+    return made(derrimas_register(world, slot, kind, proc, cd, rank, &found), &found, registered);
+}
+
+derrimas_code derrimas_register_at(derrimas_world *world, uint64_t address, derrimas_kind kind, uint64_t proc, uint64_t cd, uint8_t rank,
+                                   derrimas_registered *registered)
+{
+    derrimas_registered found;
+
+    if (kind != DERRIMAS_NORMAL && kind != DERRIMAS_IGNORE_SELF && kind != DERRIMAS_NO_ORDER)
+        return DERRIMAS_BAD_KIND;
+    return made(fz_register_at(world, address, (uint8_t)kind, proc, cd, rank, &found), &found, registered);
 }
 
 derrimas_code derrimas_unregister(derrimas_world *world, derrimas_slot slot, derrimas_old *old)
@@ -110,6 +125,13 @@ derrimas_code derrimas_unregister(derrimas_world *world, derrimas_slot slot, der
     derrimas_old unwanted;
 
     return fz_unregister(world, slot, old ? old : &unwanted);
+}
+
+derrimas_code derrimas_unregister_at(derrimas_world *world, uint64_t address, derrimas_old *old)
+{
+    derrimas_old unwanted;
+
+    return fz_unregister_at(world, address, old ? old : &unwanted);
 }
 
 /* ---- disappearing links */
@@ -152,6 +174,37 @@ derrimas_code derrimas_move_link(derrimas_world *world, derrimas_links kind, der
 
     if (is_kind(kind))
         code = fz_move_link(world, kind == DERRIMAS_LONG, slot, offset, to, to_offset, &number);
+    return tell(code, number, answer);
+}
+
+derrimas_code derrimas_link_at(derrimas_world *world, derrimas_links kind, uint64_t address, uint64_t offset, uint64_t target,
+                               derrimas_link_answer *answer)
+{
+    uint8_t number = 0;
+    derrimas_code code = DERRIMAS_BAD_KIND;
+
+    if (is_kind(kind))
+        code = fz_link_at(world, kind == DERRIMAS_LONG, address, offset, target, &number);
+    return tell(code, number, answer);
+}
+
+derrimas_code derrimas_unlink_at(derrimas_world *world, derrimas_links kind, uint64_t address, uint64_t offset, bool *was)
+{
+    bool unwanted;
+
+    if (!is_kind(kind))
+        return DERRIMAS_BAD_KIND;
+    return fz_unlink_at(world, kind == DERRIMAS_LONG, address, offset, was ? was : &unwanted);
+}
+
+derrimas_code derrimas_move_link_at(derrimas_world *world, derrimas_links kind, uint64_t address, uint64_t offset, uint64_t to,
+                                    uint64_t to_offset, derrimas_link_answer *answer)
+{
+    uint8_t number = 0;
+    derrimas_code code = DERRIMAS_BAD_KIND;
+
+    if (is_kind(kind))
+        code = fz_move_link_at(world, kind == DERRIMAS_LONG, address, offset, to, to_offset, &number);
     return tell(code, number, answer);
 }
 

@@ -28,6 +28,14 @@ uint8_t fz_link(derrimas_world *world, bool is_long, derrimas_slot slot, uint64_
 uint8_t fz_unlink(derrimas_world *world, bool is_long, derrimas_slot slot, uint64_t offset, bool *was);
 uint8_t fz_move_link(derrimas_world *world, bool is_long, derrimas_slot slot, uint64_t offset, derrimas_slot to,
                      uint64_t to_offset, uint8_t *answer);
+uint8_t fz_register_at(derrimas_world *world, uint64_t address, uint8_t kind, uint64_t proc, uint64_t cd, uint8_t rank,
+                       derrimas_registered *registered);
+uint8_t fz_unregister_at(derrimas_world *world, uint64_t address, derrimas_old *old);
+uint8_t fz_link_at(derrimas_world *world, bool is_long, uint64_t address, uint64_t offset, uint64_t target,
+                   uint8_t *answer);
+uint8_t fz_unlink_at(derrimas_world *world, bool is_long, uint64_t address, uint64_t offset, bool *was);
+uint8_t fz_move_link_at(derrimas_world *world, bool is_long, uint64_t address, uint64_t offset, uint64_t to,
+                        uint64_t to_offset, uint8_t *answer);
 uint8_t fz_begin(derrimas_world *world);
 uint8_t fz_mark(derrimas_world *world, uint64_t budget, bool *done);
 uint8_t fz_pause(derrimas_world *world, derrimas_passed *passed);

@@ -40,6 +40,11 @@ static void without_a_world(derrimas_world *w)
     REFUSED(DERRIMAS_NO_WORLD, answer, derrimas_link(w, DERRIMAS_SHORT, A, 0, B, &answer));
     REFUSED(DERRIMAS_NO_WORLD, is, derrimas_unlink(w, DERRIMAS_LONG, A, 0, &is));
     REFUSED(DERRIMAS_NO_WORLD, answer, derrimas_move_link(w, DERRIMAS_SHORT, A, 0, B, 0, &answer));
+    REFUSED(DERRIMAS_NO_WORLD, registered, derrimas_register_at(w, DERRIMAS_HEAP_START, DERRIMAS_NORMAL, 1, 1, 0, &registered));
+    REFUSED(DERRIMAS_NO_WORLD, old, derrimas_unregister_at(w, 0, &old));
+    REFUSED(DERRIMAS_NO_WORLD, answer, derrimas_link_at(w, DERRIMAS_SHORT, DERRIMAS_HEAP_START, 0, DERRIMAS_HEAP_START, &answer));
+    REFUSED(DERRIMAS_NO_WORLD, is, derrimas_unlink_at(w, DERRIMAS_LONG, DERRIMAS_HEAP_START, 0, &is));
+    REFUSED(DERRIMAS_NO_WORLD, answer, derrimas_move_link_at(w, DERRIMAS_SHORT, DERRIMAS_HEAP_START, 0, DERRIMAS_HEAP_START, 1, &answer));
     REFUSED(DERRIMAS_NO_WORLD, passed, derrimas_collect(w, &passed));
     IS(derrimas_begin(w), DERRIMAS_NO_WORLD);
     REFUSED(DERRIMAS_NO_WORLD, is, derrimas_mark(w, 0, &is));
@@ -479,6 +484,116 @@ static void links_disappear(void)
     IS(word, 0);
     OK(derrimas_read(&w, DERRIMAS_HEAP_START, 2, &word));
     IS(word, made.address);
+    derrimas_destroy(&w);
+}
+
+/* ---- by address */
+
+/* The object and the word of a link, in a world in which no slot holds either. Refusals come in the order of the header, and change nothing. */
+static void refused_by_address(derrimas_world *w, derrimas_links links, uint64_t holder, uint64_t target)
+{
+    const uint64_t beyond = DERRIMAS_HEAP_START + UINT64_C(64) * 4, hole = target + 2;
+
+    REFUSED(DERRIMAS_BAD_KIND, registered, derrimas_register_at(w, 0, (derrimas_kind)3, 1, 1, 0, &registered));
+    for (int kind = DERRIMAS_NORMAL; kind <= DERRIMAS_NO_ORDER; kind++) {
+        REFUSED(DERRIMAS_NO_OBJECT, registered, derrimas_register_at(w, 0, (derrimas_kind)kind, 1, 1, 0, &registered));
+        REFUSED(DERRIMAS_NO_OBJECT, registered, derrimas_register_at(w, beyond, (derrimas_kind)kind, 1, 1, 0, &registered));
+        REFUSED(DERRIMAS_NOT_POINTER, registered, derrimas_register_at(w, beyond - 1, (derrimas_kind)kind, 1, 1, 0, &registered));
+        REFUSED(DERRIMAS_NOT_START, registered, derrimas_register_at(w, holder + 1, (derrimas_kind)kind, 1, 1, 0, &registered));
+    }
+    REFUSED(DERRIMAS_NOT_POINTER, old, derrimas_unregister_at(w, hole, &old));
+    REFUSED(DERRIMAS_NOT_START, old, derrimas_unregister_at(w, holder + 2, &old));
+    OK(derrimas_unregister_at(w, 0, &old));
+    IS(old.was, false);
+    REFUSED(DERRIMAS_BAD_KIND, answer, derrimas_link_at(w, (derrimas_links)2, 0, 0, 0, &answer));
+    REFUSED(DERRIMAS_NOT_POINTER, answer, derrimas_link_at(w, links, hole, 0, holder + 1, &answer));
+    REFUSED(DERRIMAS_OUTSIDE_OBJECT, answer, derrimas_link_at(w, links, holder, 3, holder + 1, &answer));
+    REFUSED(DERRIMAS_NOT_POINTER, answer, derrimas_link_at(w, links, holder, 0, hole, &answer));
+    REFUSED(DERRIMAS_NOT_START, answer, derrimas_link_at(w, links, holder, 0, holder + 1, &answer));
+    REFUSED(DERRIMAS_BAD_KIND, is, derrimas_unlink_at(w, (derrimas_links)2, 0, 0, &is));
+    REFUSED(DERRIMAS_NOT_POINTER, is, derrimas_unlink_at(w, links, hole, 0, &is));
+    REFUSED(DERRIMAS_OUTSIDE_OBJECT, is, derrimas_unlink_at(w, links, holder + 1, 2, &is));
+    REFUSED(DERRIMAS_BAD_KIND, answer, derrimas_move_link_at(w, (derrimas_links)2, 0, 0, 0, 0, &answer));
+    REFUSED(DERRIMAS_NOT_POINTER, answer, derrimas_move_link_at(w, links, hole, 0, holder, 3, &answer));
+    REFUSED(DERRIMAS_OUTSIDE_OBJECT, answer, derrimas_move_link_at(w, links, holder, 3, hole, 0, &answer));
+    REFUSED(DERRIMAS_NOT_POINTER, answer, derrimas_move_link_at(w, links, holder, 0, hole, 0, &answer));
+    REFUSED(DERRIMAS_OUTSIDE_OBJECT, answer, derrimas_move_link_at(w, links, holder, 0, holder, UINT64_MAX, &answer));
+    IS(derrimas_next_registration(w, 0, &registration), DERRIMAS_EMPTY);
+    IS(derrimas_next_link(w, links, 0, &linked), DERRIMAS_EMPTY);
+}
+
+/* Links and registrations of objects that no slot holds, made, replaced, moved and removed. No slot changes. */
+static void links_by_address(derrimas_world *w, derrimas_links links, uint64_t holder, uint64_t target)
+{
+    OK(derrimas_link_at(w, links, holder + 1, 1, target, &answer));
+    IS(answer, DERRIMAS_LINKED);
+    OK(derrimas_link_at(w, links, holder, 2, holder, &answer));
+    IS(answer, DERRIMAS_LINK_DUPLICATE);
+    OK(derrimas_next_link(w, links, 0, &linked));
+    IS(linked.place == holder + 2 && linked.target == holder, true);
+    OK(derrimas_link_at(w, links, holder, 2, target, NULL));
+    OK(derrimas_move_link_at(w, links, holder, 2, holder, 0, &answer));
+    IS(answer, DERRIMAS_LINKED);
+    OK(derrimas_move_link_at(w, links, holder, 2, holder, 1, &answer));
+    IS(answer, DERRIMAS_LINK_NOT_FOUND);
+    OK(derrimas_link_at(w, links, holder, 1, target, NULL));
+    OK(derrimas_move_link_at(w, links, holder, 0, holder + 1, 0, &answer));
+    IS(answer, DERRIMAS_LINK_DUPLICATE);
+    OK(derrimas_unlink_at(w, links, holder, 1, &is));
+    IS(is, true);
+    OK(derrimas_unlink_at(w, links, holder, 1, &is));
+    IS(is, false);
+    OK(derrimas_next_link(w, links, 0, &linked));
+    IS(linked.place == holder && linked.target == target, true);
+    OK(derrimas_unlink_at(w, links, holder, 0, NULL));
+    IS(derrimas_next_link(w, links, 0, &linked), DERRIMAS_EMPTY);
+}
+
+static void registrations_by_address(derrimas_world *w, uint64_t target)
+{
+    for (int kind = DERRIMAS_NORMAL; kind <= DERRIMAS_NO_ORDER; kind++) {
+        OK(derrimas_register_at(w, target, (derrimas_kind)kind, 10 + (uint64_t)kind, 20, 30, &registered));
+        IS(registered.made, true);
+        IS(registered.replaced.was, kind != DERRIMAS_NORMAL);
+        IS(registered.number, (uint64_t)kind);
+        OK(derrimas_next_registration(w, 0, &registration));
+        IS(registration.object == target && registration.kind == (derrimas_kind)kind && registration.rank == 30, true);
+        IS(registration.proc == 10 + (uint64_t)kind && registration.cd == 20, true);
+    }
+    OK(derrimas_unregister_at(w, target, &old));
+    IS(old.was && old.proc == 12 && old.cd == 20, true);
+    OK(derrimas_register_at(w, target, DERRIMAS_NORMAL, 1, 0, 0, NULL));
+    OK(derrimas_unregister_at(w, target, NULL));
+    IS(derrimas_next_registration(w, 0, &registration), DERRIMAS_EMPTY);
+}
+
+static void by_address(void)
+{
+    derrimas_world w = {0};
+    uint64_t holder, target;
+
+    OK(derrimas_open(&w, 4, 1));
+    OK(derrimas_alloc(&w, A, 3, DERRIMAS_ATOMIC, &made));
+    holder = made.address;
+    OK(derrimas_alloc(&w, A, 2, DERRIMAS_SCANNED, &made));
+    target = made.address;
+    OK(derrimas_set(&w, A, 77));
+    for (int kind = DERRIMAS_SHORT; kind <= DERRIMAS_LONG; kind++) {
+        refused_by_address(&w, (derrimas_links)kind, holder, target);
+        links_by_address(&w, (derrimas_links)kind, holder, target);
+    }
+    registrations_by_address(&w, target);
+    for (uint64_t n = 0; n < DERRIMAS_SLOTS; n++) {
+        OK(derrimas_get(&w, derrimas_at(0, n), &word));
+        IS(word, n ? 0 : 77);
+    }
+    /* An address retains nothing: what is registered by one is queued by the next collection. */
+    OK(derrimas_register_at(&w, target, DERRIMAS_NORMAL, 5, 0, 0, NULL));
+    OK(derrimas_collect(&w, &passed));
+    IS(passed.picked == 1 && passed.reclaimed == 1, true);
+    OK(derrimas_take(&w, &entry));
+    IS(entry.obj == target && entry.proc == 5, true);
+    IS(derrimas_register_at(&w, holder, DERRIMAS_NORMAL, 5, 0, 0, NULL), DERRIMAS_NOT_POINTER);
     derrimas_destroy(&w);
 }
 
@@ -936,6 +1051,7 @@ int main(void)
         answers_of_links((derrimas_links)kind);
     }
     links_disappear();
+    by_address();
     cycles();
     queue();
     finish_and_take();

@@ -169,25 +169,48 @@ static void step_read(void)
         IS(object.start == address(points(word)) && object.size == m.at[points(word)].size, true);
 }
 
-/* ---- finalizers and links */
+/* ---- finalizers and links: by slots, or by addresses, which no slot has to hold */
+
+typedef struct chosen {
+    bool by_address;
+    derrimas_slot at;
+    uint64_t word;
+    derrimas_code code; /* DERRIMAS_BAD_SLOT, or DERRIMAS_OK */
+} chosen;
+
+static chosen chosen_object(bool by_address)
+{
+    chosen it = {by_address, some_slot(), 0, DERRIMAS_OK};
+
+    if (!by_address)
+        it.code = slot_code(it.at);
+    if (by_address && chance(2))
+        it.word = some_word();
+    else if (is_slot(it.at))
+        it.word = *word_of(it.at);
+    return it;
+}
+
+static bool is_off_heap(uint64_t word) { return word < DERRIMAS_HEAP_START || word >= address(WORDS); }
 
 static void step_register(void)
 {
-    derrimas_slot at = some_slot();
+    const chosen object = chosen_object(chance(2));
     derrimas_kind kind = (derrimas_kind)chance(3);
-    uint64_t proc = chance(9), cd = chance(4) ? chance(100) : some_word(), word = is_slot(at) ? *word_of(at) : 0;
+    uint64_t proc = chance(9), cd = chance(4) ? chance(100) : some_word(), word = object.word;
     uint8_t rank = (uint8_t)(chance(3) ? chance(3) : chance(256));
-    bool is_off = word < DERRIMAS_HEAP_START || word >= address(WORDS), is_strict = chance(2);
+    bool is_strict = object.by_address || chance(2);
     derrimas_registered r = {7, {7, 7, true}, true};
     struct place *place;
-    derrimas_code wanted = first(slot_code(at), is_off ? (is_strict ? DERRIMAS_NO_OBJECT : DERRIMAS_OK) : start_code(word));
+    derrimas_code wanted = first(object.code, is_off_heap(word) ? (is_strict ? DERRIMAS_NO_OBJECT : DERRIMAS_OK) : start_code(word));
 
-    if (!ACCEPTED((is_strict ? derrimas_register_object : derrimas_register)(&world, at, kind, proc, cd, rank, &r), wanted)) {
+    if (!ACCEPTED(object.by_address ? derrimas_register_at(&world, word, kind, proc, cd, rank, &r)
+                                    : (is_strict ? derrimas_register_object : derrimas_register)(&world, object.at, kind, proc, cd, rank, &r), wanted)) {
         IS(r.number == 7 && r.replaced.cd == 7, true);
         return;
     }
-    IS(r.made, !is_off);
-    if (is_off)
+    IS(r.made, !is_off_heap(word));
+    if (!r.made)
         return;
     place = &m.at[word - DERRIMAS_HEAP_START];
     IS(r.number, m.numbers);
@@ -199,14 +222,14 @@ static void step_register(void)
 
 static void step_unregister(void)
 {
-    derrimas_slot at = some_slot();
-    uint64_t word = is_slot(at) ? *word_of(at) : 0;
-    bool is_off = word < DERRIMAS_HEAP_START || word >= address(WORDS);
+    const chosen object = chosen_object(chance(2));
+    uint64_t word = object.word;
     derrimas_old old = {7, 7, true};
+    derrimas_code wanted = first(object.code, is_off_heap(word) ? DERRIMAS_OK : start_code(word));
 
-    if (!ACCEPTED(derrimas_unregister(&world, at, &old), first(slot_code(at), is_off ? DERRIMAS_OK : start_code(word))))
+    if (!ACCEPTED(object.by_address ? derrimas_unregister_at(&world, word, &old) : derrimas_unregister(&world, object.at, &old), wanted))
         return;
-    IS(old.was, !is_off && m.at[word - DERRIMAS_HEAP_START].registered);
+    IS(old.was, !is_off_heap(word) && m.at[word - DERRIMAS_HEAP_START].registered);
     if (!old.was)
         return;
     IS(old.proc == m.at[word - DERRIMAS_HEAP_START].registration.proc && old.cd == m.at[word - DERRIMAS_HEAP_START].registration.cd, true);
@@ -216,51 +239,50 @@ static void step_unregister(void)
 static void step_link(void)
 {
     derrimas_links kind = (derrimas_links)chance(2);
-    derrimas_slot at = some_slot(), target = some_slot();
+    const chosen object = chosen_object(chance(2)), target = chosen_object(object.by_address);
     uint64_t offset = chance(3), *link;
     derrimas_link_answer answer = DERRIMAS_LINK_NOT_FOUND;
-    derrimas_code wanted = first(slot_code(at), slot_code(target));
+    derrimas_code wanted = first(object.code, target.code);
 
-    if (wanted == DERRIMAS_OK)
-        wanted = first(place_code(*word_of(at), offset), start_code(*word_of(target)));
-    if (!ACCEPTED(derrimas_link(&world, kind, at, offset, target, &answer), wanted))
+    wanted = first(wanted, first(place_code(object.word, offset), start_code(target.word)));
+    if (!ACCEPTED(object.by_address ? derrimas_link_at(&world, kind, object.word, offset, target.word, &answer)
+                                    : derrimas_link(&world, kind, object.at, offset, target.at, &answer), wanted))
         return;
-    link = &m.at[*word_of(at) + offset - DERRIMAS_HEAP_START].target[kind];
+    link = &m.at[object.word + offset - DERRIMAS_HEAP_START].target[kind];
     IS(answer, *link ? DERRIMAS_LINK_DUPLICATE : DERRIMAS_LINKED);
-    *link = *word_of(target);
-    if (chance(2) && ACCEPTED(derrimas_store(&world, at, offset, target), DERRIMAS_OK))
-        m.at[*word_of(at) + offset - DERRIMAS_HEAP_START].word = *word_of(target);
+    *link = target.word;
+    if (!object.by_address && chance(2) && ACCEPTED(derrimas_store(&world, object.at, offset, target.at), DERRIMAS_OK))
+        m.at[object.word + offset - DERRIMAS_HEAP_START].word = target.word;
 }
 
 static void step_unlink(void)
 {
     derrimas_links kind = (derrimas_links)chance(2);
-    derrimas_slot at = some_slot();
+    const chosen object = chosen_object(chance(2));
     uint64_t offset = chance(3);
     bool was = false;
-    derrimas_code wanted = slot_code(at);
+    derrimas_code wanted = first(object.code, place_code(object.word, offset));
 
-    wanted = first(wanted, wanted == DERRIMAS_OK ? place_code(*word_of(at), offset) : wanted);
-    if (!ACCEPTED(derrimas_unlink(&world, kind, at, offset, &was), wanted))
+    if (!ACCEPTED(object.by_address ? derrimas_unlink_at(&world, kind, object.word, offset, &was) : derrimas_unlink(&world, kind, object.at, offset, &was), wanted))
         return;
-    IS(was, m.at[*word_of(at) + offset - DERRIMAS_HEAP_START].target[kind] != 0);
-    m.at[*word_of(at) + offset - DERRIMAS_HEAP_START].target[kind] = 0;
+    IS(was, m.at[object.word + offset - DERRIMAS_HEAP_START].target[kind] != 0);
+    m.at[object.word + offset - DERRIMAS_HEAP_START].target[kind] = 0;
 }
 
 static void step_move(void)
 {
     derrimas_links kind = (derrimas_links)chance(2);
-    derrimas_slot at = some_slot(), to = some_slot();
+    const chosen object = chosen_object(chance(2)), to = chosen_object(object.by_address);
     uint64_t offset = chance(3), to_offset = chance(3), *old, *new;
     derrimas_link_answer answer = DERRIMAS_LINKED;
-    derrimas_code wanted = first(slot_code(at), slot_code(to));
+    derrimas_code wanted = first(object.code, to.code);
 
-    if (wanted == DERRIMAS_OK)
-        wanted = first(place_code(*word_of(at), offset), place_code(*word_of(to), to_offset));
-    if (!ACCEPTED(derrimas_move_link(&world, kind, at, offset, to, to_offset, &answer), wanted))
+    wanted = first(wanted, first(place_code(object.word, offset), place_code(to.word, to_offset)));
+    if (!ACCEPTED(object.by_address ? derrimas_move_link_at(&world, kind, object.word, offset, to.word, to_offset, &answer)
+                                    : derrimas_move_link(&world, kind, object.at, offset, to.at, to_offset, &answer), wanted))
         return;
-    old = &m.at[*word_of(at) + offset - DERRIMAS_HEAP_START].target[kind];
-    new = &m.at[*word_of(to) + to_offset - DERRIMAS_HEAP_START].target[kind];
+    old = &m.at[object.word + offset - DERRIMAS_HEAP_START].target[kind];
+    new = &m.at[to.word + to_offset - DERRIMAS_HEAP_START].target[kind];
     IS(answer, !*old ? DERRIMAS_LINK_NOT_FOUND : old != new && *new ? DERRIMAS_LINK_DUPLICATE : DERRIMAS_LINKED);
     if (answer != DERRIMAS_LINKED || old == new)
         return;

@@ -189,6 +189,36 @@ uint8_t fz_move_link(derrimas_world *w, bool is_long, derrimas_slot object, uint
     return FILLED(noted("move_link %d" SLOT N SLOT N, is_long, OF_SLOT(object), offset, OF_SLOT(to), to_offset), number, uint8_t, (uint8_t)value);
 }
 
+uint8_t fz_register_at(derrimas_world *w, uint64_t object, uint8_t kind, uint64_t proc, uint64_t cd, uint8_t rank, derrimas_registered *place)
+{
+    (void)w;
+    return REGISTERED_AT(noted("register_at" N " %d" N N " %d", object, kind, proc, cd, rank), place);
+}
+
+uint8_t fz_unregister_at(derrimas_world *w, uint64_t object, derrimas_old *old)
+{
+    (void)w;
+    return FILLED(noted("unregister_at" N, object), old, derrimas_old, V(0), V(1), value != 0);
+}
+
+uint8_t fz_link_at(derrimas_world *w, bool is_long, uint64_t object, uint64_t offset, uint64_t target, uint8_t *number)
+{
+    (void)w;
+    return FILLED(noted("link_at %d" N N N, is_long, object, offset, target), number, uint8_t, (uint8_t)value);
+}
+
+uint8_t fz_unlink_at(derrimas_world *w, bool is_long, uint64_t object, uint64_t offset, bool *was)
+{
+    (void)w;
+    return BOOL_AT(noted("unlink_at %d" N N, is_long, object, offset), was);
+}
+
+uint8_t fz_move_link_at(derrimas_world *w, bool is_long, uint64_t object, uint64_t offset, uint64_t to, uint64_t to_offset, uint8_t *number)
+{
+    (void)w;
+    return FILLED(noted("move_link_at %d" N N N N, is_long, object, offset, to, to_offset), number, uint8_t, (uint8_t)value);
+}
+
 uint8_t fz_begin(derrimas_world *w) { return (void)w, noted("begin"); }
 uint8_t fz_mark(derrimas_world *w, uint64_t budget, bool *done) { return (void)w, BOOL_AT(noted("mark" N, budget), done); }
 uint8_t fz_pause(derrimas_world *w, derrimas_passed *passed) { return (void)w, PASSED_AT(noted("pause"), passed); }

@@ -401,6 +401,13 @@ static const std::map<string, member> members = {
     {"link", SHOWN(f.world.link(LINKS, a.slot(1), a.number(2), a.slot(3)))},
     {"unlink", SHOWN(f.world.unlink(LINKS, a.slot(1), a.number(2)))},
     {"move_link", SHOWN(f.world.move_link(LINKS, a.slot(1), a.number(2), a.slot(3), a.number(4)))},
+    {"register_at", SHOWN(a.is("default") ? f.world.register_at(a.number(1), kind::normal, a.number(2), a.number(3))
+                                          : f.world.register_at(a.number(1), a.kind(kinds), a.number(2), a.number(3),
+                                                                static_cast<std::uint8_t>(a.number(4))))},
+    {"unregister_at", SHOWN(f.world.unregister_at(a.number(0)))},
+    {"link_at", SHOWN(f.world.link_at(LINKS, a.number(1), a.number(2), a.number(3)))},
+    {"unlink_at", SHOWN(f.world.unlink_at(LINKS, a.number(1), a.number(2)))},
+    {"move_link_at", SHOWN(f.world.move_link_at(LINKS, a.number(1), a.number(2), a.number(3), a.number(4)))},
     {"collect", SHOWN(f.world.collect())},
     {"begin", DONE(f.world.begin())},
     {"mark", SHOWN(f.world.mark(a.number(0)))},

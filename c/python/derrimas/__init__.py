@@ -78,6 +78,8 @@ def library() -> ctypes.CDLL:
         "load": [Slot, n, Slot, POINTER(n)], "store": [Slot, n, Slot], "write": [Slot, n, n], "read": [n, n, POINTER(n)], "base": [n, POINTER(Object)],
         "register_object": [Slot, kind, n, n, c_uint8, POINTER(Registered)], "unregister": [Slot, POINTER(Old)],
         "link": [kind, Slot, n, Slot, POINTER(kind)], "unlink": [kind, Slot, n, POINTER(c_bool)], "move_link": [kind, Slot, n, Slot, n, POINTER(kind)],
+        "register_at": [n, kind, n, n, c_uint8, POINTER(Registered)], "unregister_at": [n, POINTER(Old)],
+        "link_at": [kind, n, n, n, POINTER(kind)], "unlink_at": [kind, n, n, POINTER(c_bool)], "move_link_at": [kind, n, n, n, n, POINTER(kind)],
         "begin": [], "mark": [n, POINTER(c_bool)], "pause": [POINTER(Passed)], "collect": [POINTER(Passed)], "take": [POINTER(Entry)],
         "waiting": [POINTER(c_bool)], "outstanding": [POINTER(n)], "hold": [Slot, POINTER(Entry)], "finish": [POINTER(Entry)],
         "finish_and_take": [POINTER(Entry)], "forget": [POINTER(n)], "forgotten": [POINTER(n)],
@@ -177,6 +179,26 @@ class World(Owner):
     def move_link(self, slot: At, offset: int, to: At, to_offset: int, kind: Links = Links.SHORT) -> LinkAnswer:
         """Moves a link."""
         return LinkAnswer(self._answer(c_uint32, "move_link", kind, Slot(*slot), offset, Slot(*to), to_offset))
+
+    def register_at(self, address: int, proc: int, cd: int = 0, rank: int = 0, kind: Kind = Kind.NORMAL) -> Registered:
+        """Registers a finalizer of the object that starts at this address, which no slot has to hold. Refused if the address is 0 or outside the heap."""
+        return self._answer(Registered, "register_at", address, kind, proc, cd, rank)
+
+    def unregister_at(self, address: int) -> Old:
+        """Removes the finalizer of the object that starts at this address, and returns what it was."""
+        return self._answer(Old, "unregister_at", address)
+
+    def link_at(self, address: int, offset: int, target: int, kind: Links = Links.SHORT) -> LinkAnswer:
+        """Makes the word at the address plus the offset a link to the object that starts at the address `target`."""
+        return LinkAnswer(self._answer(c_uint32, "link_at", kind, address, offset, target))
+
+    def unlink_at(self, address: int, offset: int, kind: Links = Links.SHORT) -> bool:
+        """Removes the link at the address plus the offset, and returns whether there was one."""
+        return self._answer(c_bool, "unlink_at", kind, address, offset)
+
+    def move_link_at(self, address: int, offset: int, to: int, to_offset: int, kind: Links = Links.SHORT) -> LinkAnswer:
+        """Moves a link, by the addresses of the objects that have the two words."""
+        return LinkAnswer(self._answer(c_uint32, "move_link_at", kind, address, offset, to, to_offset))
 
     def collect(self) -> Passed:
         """A whole cycle with its pass."""
