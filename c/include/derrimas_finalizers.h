@@ -6,8 +6,8 @@
  * which are compared and returned, and never dereferenced. An object is any number but 0 by which the host finds it: its
  * address, an address that is hidden by a map that keeps the order, or an index. What is proved of a pass assumes that an
  * object with n words takes the n numbers from its own on, and that no two objects share one. The word of a link or of an
- * ephemeron is any number but 0 by which the host finds it, and has one number: its address, or an object's number and an
- * offset. A host whose marker scans the stack for what looks like an address hides all of these by the same map, since
+ * ephemeron is any number but 0 by which the host finds it: its address, or an object's number with an offset. Each word has
+ * one number. A host whose marker scans the stack for what looks like an address hides all of these by the same map, since
  * questions and entries are on the stack.
  *
  * The host has the heap. It marks what its roots reach, and what derrimas_finalizers_roots yields. Then it makes a pass,
@@ -17,7 +17,7 @@
  * A call that can be refused returns a derrimas_finalizers_code. A refused call changes nothing, and leaves the places for
  * its results as they were. If several causes apply, it returns the first in the order of the call's comment.
  *
- * What the host owes, since nothing checks C:
+ * What the host owes, which the library doesn't check:
  * - A pointer points to a value of its type, which no other thread uses meanwhile. It may be NULL only where the call's
  *   comment says so; DERRIMAS_NONNULL marks the others.
  * - A derrimas_finalizers starts as {0}, is changed only by these calls, and isn't copied.
@@ -33,7 +33,7 @@
  * - Before the host reclaims an object at any other time than after a pass that left it unmarked, it removes the object's
  *   registration, the links to it, the ephemerons whose key it is and its cleanups: a pass asks whether the object is
  *   marked, and a new object of the same number would inherit them. A pass that ends leaves none of these of an object that
- *   it left unmarked.
+ *   it left unmarked. Only one by .._begin_from may leave registrations and cleanups, those with numbers lower than `from`.
  *
  * Only derrimas_finalizers_open, .._reserve, .._shrink, .._register, .._link, .._ephemeron, .._add_cleanup, .._why, .._stuck
  * and, with the option `live`, .._move_link allocate, by the handle's allocator; only these and .._destroy free. All other
@@ -230,8 +230,8 @@ typedef enum derrimas_ask {
  * - IS_MARKED, HOLDER_IS_MARKED, MARK_VALUE: bit i of the answers, counted from the lowest, is the answer about what[i]. For
  *   MARK_VALUE 1 is always right; 0 says that everything was marked before.
  * - MARKS: what[j] is where a region begins, which has 64 places, 16 apart. Bit i of marks[j] says whether the object that
- *   begins at what[j] + 16 * i is marked. If none begins there, the bit may have any value. For a region whose memory is
- *   freed give 0.
+ *   begins at what[j] + 16 * i is marked. If none begins there, the bit may have any value. Return 0 for a region whose
+ *   memory was freed.
  * - LIVE: what[j] is where such a region begins. Bit i of marks[j] is what HOLDER_IS_MARKED would answer about the word with
  *   the number what[j] + 16 * i: so it is 1 if no object has the word. If no link has a word there, the bit may have any
  *   value.
@@ -395,9 +395,10 @@ derrimas_finalizers_code derrimas_finalizers_begin(derrimas_finalizers *finalize
  * Refused: NOT_OPEN, PASS_OPEN. */
 derrimas_finalizers_code derrimas_finalizers_begin_from(derrimas_finalizers *finalizers, uint64_t from) DERRIMAS_NONNULL(1);
 
-/* Takes the answers to the question before (at first any), and puts the next question into *question. If the question before
- * was MARKS or LIVE, its answers are in question->marks. EMPTY isn't a refusal: there is no further question, and the pass
- * has ended; what it did is in *passed, which may be NULL, and which other calls of .._next don't write.
+/* Takes the answers to the last question, and puts the next question into *question. The first call in a pass ignores
+ * `answers`. If the last question was MARKS or LIVE, its answers are in question->marks. EMPTY isn't a refusal: there is no
+ * further question, and the pass has ended; what it did is in *passed, which may be NULL, and which other calls of .._next
+ * don't write.
  *
  * A pass takes time proportional to the registrations, the links and the cleanups, and sorts the unmarked objects and the
  * cleanups. A single call may take as much, when the pass goes on to another list. With the options `marks` and `live` a
@@ -405,11 +406,11 @@ derrimas_finalizers_code derrimas_finalizers_begin_from(derrimas_finalizers *fin
  * the objects of cleanups of a kind. If everything noted there is marked, this takes time proportional to the regions, and
  * not to the list. Otherwise the pass walks over the list too, but sorts or asks about only what isn't marked.
  *
- * A pass asks three questions about an ephemeron whose key and object are marked, and nothing more once it has had the value
- * marked. Four times it asks, in rounds, as long as values are marked, about those that still wait for their keys or
- * objects. A chain of n ephemerons, the value of each of which reaches the key of the next, takes n rounds. So n ephemerons
- * take at most time proportional to the square of n, or less if the host makes the next call. While a pass is open, the
- * value of an ephemeron's word changes only when that word is cleared.
+ * A pass asks three questions about an ephemeron whose key and object are marked: about each of these two, and to mark the
+ * value. Then it asks nothing more about this ephemeron. Four times in a pass it asks, in rounds, about those that still wait
+ * for their keys or objects, until a round marks no value. A chain of n ephemerons, the value of each of which reaches the
+ * key of the next, may take n rounds. So n ephemerons take at most time proportional to the square of n, or less if the host
+ * calls .._key_marked. While a pass is open, the value of an ephemeron's word changes only when that word is cleared.
  * Refused: NOT_OPEN, NO_PASS; EMPTY. */
 derrimas_finalizers_code derrimas_finalizers_next(derrimas_finalizers *finalizers, uint64_t answers,
                                                   derrimas_question *question, derrimas_finalizers_passed *passed)
@@ -558,9 +559,9 @@ typedef enum derrimas_why_reason {
     DERRIMAS_WHY_UNREGISTERED = 0, /* it has no finalizer and no entry, and if it has cleanups, it is unreachable */
     DERRIMAS_WHY_QUEUED = 1,       /* its entry waits or is held */
     DERRIMAS_WHY_FOUND = 2,        /* it is reachable, and has a finalizer, or cleanups and no entry: the path begins with
-                                    * the object to which the root points, and ends with it */
-    DERRIMAS_WHY_WAITS = 3,        /* it is unreachable and on no ring: the path goes from another unreachable object with a
-                                    * finalizer, which may be on a ring, by a first step to it, and that one comes first */
+                                    * the object to which the root points, and ends with the object asked about */
+    DERRIMAS_WHY_WAITS = 3,        /* it is unreachable and on no ring: the path goes to it, by a first step, from another
+                                    * unreachable object with a finalizer, which has to run first, and which may be on a ring */
     DERRIMAS_WHY_RING = 4,         /* it is unreachable: the path goes from it, by a first step, back to it, so no pass
                                     * queues it as long as the words and ephemerons on the path stay, with their keys */
     DERRIMAS_WHY_READY = 5         /* the next pass queues it, if nothing changes before */
