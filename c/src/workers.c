@@ -171,7 +171,9 @@ static code finish(crew *it, const derrimas_finalizers_entry *entry)
 
     enter(it);
     found = derrimas_finalizers_finish(it->own.finalizers, entry);
-    if (it->has_kept)
+    if (it->has_kept && has_stop(it))
+        (void)sent(it); /* after a stop nothing that still waits is taken */
+    else if (it->has_kept)
         (void)send_all(it);
     leave(it);
     return found;

@@ -316,6 +316,36 @@ static void no_memory(void)
     IS(counts.shortages >= 2, true);
 }
 
+/* A stop while an entry is kept for lack of memory: the workers run what was published, the kept entry among it, and the entries that wait stay. */
+static void stop_without_memory(void)
+{
+    derrimas_workers_counts counts = {0, 0, 0, 0, 0};
+    derrimas_finalizers_counts left;
+
+    start(WORKERS);
+    is_held = true;
+    enter(NULL);
+    for (uint64_t object = 1; object <= FEW; object++) {
+        data[object] = 7 * object;
+        OK(derrimas_finalizers_register(&finalizers, object, DERRIMAS_FINALIZERS_NORMAL, HOLDS, object, 0, NULL, NULL));
+    }
+    OK(derrimas_finalizers_queue_all(&finalizers, NULL));
+    has_no_memory = true;
+    IS(derrimas_workers_publish(&workers), DERRIMAS_FINALIZERS_NO_MEMORY);
+    leave(NULL);
+    IS(derrimas_workers_stop(&workers, 5, NULL), DERRIMAS_FINALIZERS_PENDING);
+    has_no_memory = false;
+    is_held = false;
+    OK(derrimas_workers_stop(&workers, UINT64_MAX, &counts));
+    IS(counts.published > WORKERS && counts.published < FEW, true);
+    IS(counts.finished, counts.published);
+    IS(ran_times(FEW, 1), counts.finished);
+    OK(derrimas_finalizers_count(&finalizers, &left));
+    IS(left.waiting, FEW - counts.published);
+    IS(left.held, 0);
+    derrimas_finalizers_destroy(&finalizers);
+}
+
 /* A procedure that ends its thread: its entry stays held. If no worker is left, the remaining entries are abandoned too. */
 static void ended_threads(void)
 {
@@ -586,6 +616,7 @@ int main(int count, char **words)
     cleanups();
     few_threads();
     no_memory();
+    stop_without_memory();
     ended_threads();
     finished_by_procedures();
     held_up();
