@@ -43,7 +43,7 @@ class Sums:
     def __init__(self, owners):
         tools = [os.path.join(os.path.dirname(os.path.abspath(__file__)), it) for it in JUDGES]
         self.rules = sum_of(logic(), [without_comments(it, text_of(it).split('\n')) for it in tools])
-        self.owners, self.files, self.faces = owners, {}, {}
+        self.owners, self.files, self.faces, self.parts = owners, {}, {}, {}
 
     def file(self, owner, path, left_out=()):
         """The sum of a file without the bodies of these functions."""
@@ -55,13 +55,19 @@ class Sums:
             self.files[key] = sum_of(path, without_comments(path, lines))
         return self.files[key]
 
+    def parts_of(self, owner):
+        """The files of a crate that checks read, and the functions whose proofs are in folders of their own."""
+        if owner not in self.parts:
+            self.parts[owner] = owner.paths(), {it for it in owner.functions if owner.has_proof_of_its_own(it)}
+        return self.parts[owner]
+
     def crate(self, owner, left_out):
         """The sum of a crate without the bodies and the proofs of these functions."""
         proofs = {f'proofs/{path}' for it in left_out for path in it.paths}
         sources = collections.defaultdict(list)
         for it in left_out:
             sources[it.file].append(it)
-        read = [it for it in owner.paths if os.path.dirname(it) not in proofs]
+        read = [it for it in self.parts_of(owner)[0] if os.path.dirname(it) not in proofs]
         needs = [owner.crate.name, sorted(it.name for it in owner.crate.below()), sorted(owner.crate.of_kit)]
         return sum_of(needs, [self.file(owner, it, sources[it]) for it in read])
 
@@ -76,7 +82,7 @@ class Sums:
         owner = edit.owner
         laws = owner.laws if edit.laws else []
         tried = [it for it in owner.functions if it in edit.functions or it.path in laws]
-        left_out = [] if is_of_whole else [it for it in owner.functions if it.is_plain and it not in tried and it in owner.with_proofs_of_their_own]
+        left_out = [] if is_of_whole else [it for it in owner.functions if it.is_plain and it not in tried and it in self.parts_of(owner)[1]]
         faces = [self.face(self.owners[it.name]) for it in sorted(owner.crate.below(), key=lambda it: it.name)]
         text = without_comments(edit.path, text_of(edit.path).split('\n')) + [f"laws: {', '.join(laws)}"] * bool(laws)
         return sum_of(self.rules, 'whole' if is_of_whole else 'functions', edit.name, text, self.crate(owner, left_out), faces)
