@@ -63,6 +63,53 @@ APART static void make_frame(uint64_t n)
 static inline void aim_spine(uint64_t i) { (void)load(TOP, i / WORDS, SPINE); }
 static inline void aim_holder(uint64_t n, uint64_t i) { (void)load(TOP, spines(n) + i / LINKS, HOLDER); }
 
+/* The number of the holder of this link. */
+static inline uint64_t holder_of(uint64_t n, uint64_t i)
+{
+    aim_holder(n, i);
+    return number_in(HOLDER);
+}
+
+/* Calls by the number of an object. Over bdwgc a root gets the pointer first; over derrimas.h the number is the object's address, which no slot has to hold. */
+#ifdef BDWGC
+static inline void finalize_number(uint64_t number, uint64_t cd) { aim(OBJECT, number); finalize(OBJECT, NORMAL, nothing, cd); }
+static inline void unfinalize_number(uint64_t number) { aim(OBJECT, number); unfinalize(OBJECT); }
+static inline int link_number(uint64_t holder, uint64_t offset, uint64_t number) { (void)holder; aim(OBJECT, number); return make_link(false, HOLDER, offset, OBJECT); }
+static inline int unlink_number(uint64_t holder, uint64_t offset) { (void)holder; return remove_link(false, HOLDER, offset); }
+static inline int move_number(uint64_t holder, uint64_t offset, uint64_t to) { (void)holder; return move_link(false, HOLDER, offset, to); }
+#else
+static inline void finalize_number(uint64_t number, uint64_t cd)
+{
+    MUST(derrimas_register_at(&world, number, DERRIMAS_NORMAL, number_of(nothing), cd, 0, NULL));
+}
+
+static inline void unfinalize_number(uint64_t number) { MUST(derrimas_unregister_at(&world, number, NULL)); }
+
+static inline int link_number(uint64_t holder, uint64_t offset, uint64_t number)
+{
+    derrimas_link_answer answer;
+
+    MUST(derrimas_link_at(&world, DERRIMAS_SHORT, holder, offset, number, &answer));
+    return DERRIMAS_GC_ANSWER(answer);
+}
+
+static inline int unlink_number(uint64_t holder, uint64_t offset)
+{
+    bool was;
+
+    MUST(derrimas_unlink_at(&world, DERRIMAS_SHORT, holder, offset, &was));
+    return was;
+}
+
+static inline int move_number(uint64_t holder, uint64_t offset, uint64_t to)
+{
+    derrimas_link_answer answer;
+
+    MUST(derrimas_move_link_at(&world, DERRIMAS_SHORT, holder, offset, holder, to, &answer));
+    return DERRIMAS_GC_ANSWER(answer);
+}
+#endif
+
 static void forget_all(void)
 {
     forget(OBJECT);
@@ -91,10 +138,8 @@ APART static void number_all(uint64_t n)
 
 APART static void register_all(uint64_t n)
 {
-    for (uint64_t i = 0; i < n; i++) {
-        aim(OBJECT, numbers[i]);
-        finalize(OBJECT, NORMAL, nothing, i);
-    }
+    for (uint64_t i = 0; i < n; i++)
+        finalize_number(numbers[i], i);
 }
 
 APART static void load_and_register(uint64_t n)
@@ -109,47 +154,52 @@ APART static void load_and_register(uint64_t n)
 
 APART static void unregister_all(uint64_t n)
 {
-    for (uint64_t i = 0; i < n; i++) {
-        aim(OBJECT, numbers[i]);
-        unfinalize(OBJECT);
-    }
+    for (uint64_t i = 0; i < n; i++)
+        unfinalize_number(numbers[i]);
 }
 
 APART static void link_all(uint64_t n)
 {
+    uint64_t holder = 0;
+
     for (uint64_t i = 0; i < n; i++) {
         if (i % LINKS == 0)
-            aim_holder(n, i);
-        aim(OBJECT, numbers[i]);
-        must(make_link(false, HOLDER, i % LINKS, OBJECT) == 0, "a new link");
+            holder = holder_of(n, i);
+        must(link_number(holder, i % LINKS, numbers[i]) == 0, "a new link");
     }
 }
 
 APART static void unlink_all(uint64_t n)
 {
+    uint64_t holder = 0;
+
     for (uint64_t i = 0; i < n; i++) {
         if (i % LINKS == 0)
-            aim_holder(n, i);
-        must(remove_link(false, HOLDER, i % LINKS), "a link");
+            holder = holder_of(n, i);
+        must(unlink_number(holder, i % LINKS), "a link");
     }
 }
 
 /* each to the word after its own, starting with the last one of a holder */
 APART static void move_on(uint64_t n)
 {
+    uint64_t holder = 0;
+
     for (uint64_t i = n; i-- > 0;) {
         if (i + 1 == n || i % LINKS == LINKS - 1)
-            aim_holder(n, i);
-        must(move_link(false, HOLDER, i % LINKS, i % LINKS + 1) == 0, "a move");
+            holder = holder_of(n, i);
+        must(move_number(holder, i % LINKS, i % LINKS + 1) == 0, "a move");
     }
 }
 
 APART static void move_back(uint64_t n)
 {
+    uint64_t holder = 0;
+
     for (uint64_t i = 0; i < n; i++) {
         if (i % LINKS == 0)
-            aim_holder(n, i);
-        must(move_link(false, HOLDER, i % LINKS + 1, i % LINKS) == 0, "a move");
+            holder = holder_of(n, i);
+        must(move_number(holder, i % LINKS + 1, i % LINKS) == 0, "a move");
     }
 }
 

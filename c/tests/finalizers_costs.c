@@ -1,8 +1,12 @@
 /* finalizers_costs N STRIDE: registrations, links, ephemerons, cleanups, walks and look-ups of N objects whose numbers are so far apart. c/run counts the
  * instructions of each function here whose name begins with `cost_`: divided by N, or by 10,000 calls if it looks something up, they don't grow with N.
+ * And it bounds the bytes that realloc may copy while the first N registrations are made.
  */
+#define _GNU_SOURCE /* for RTLD_NEXT */
 #include "check.h"
 #include "derrimas_finalizers.h"
+#include <dlfcn.h>
+#include <malloc.h>
 #include <stdlib.h>
 
 enum { CALLS = 10000, PART = 64 };
@@ -11,6 +15,19 @@ static const uint64_t first = 65536;
 
 static derrimas_finalizers finalizers;
 static uint64_t size, stride, wrong, next_number;
+
+/* The bytes of the blocks that were passed to realloc: it may copy so many. */
+static uint64_t copied;
+
+void *realloc(void *memory, size_t bytes)
+{
+    static void *(*of_libc)(void *, size_t);
+
+    if (!of_libc)
+        *(void **)&of_libc = dlsym(RTLD_NEXT, "realloc");
+    copied += malloc_usable_size(memory);
+    return of_libc(memory, bytes);
+}
 
 static uint64_t object_at(uint64_t n) { return first + stride * n; }
 
@@ -122,6 +139,22 @@ COST cost_cancelling(void)
         wrong += derrimas_finalizers_cancel(&finalizers, next_number - n, &old) != DERRIMAS_FINALIZERS_OK || !old.was;
 }
 
+/* Lists for entries and picks grow by an eighth as registrations are made, while nothing is in them: a block of which nothing is kept isn't copied. */
+static void copies_little(void)
+{
+    derrimas_finalizers_counts counts;
+    derrimas_finalizers it;
+
+    OK(derrimas_finalizers_open(&it, NULL));
+    copied = 0;
+    for (uint64_t n = 0; n < size; n++)
+        OK(derrimas_finalizers_register(&it, object_at(n), DERRIMAS_FINALIZERS_NORMAL, n, n, 0, NULL, NULL));
+    printf("%llu bytes copied a registration\n", (unsigned long long)(copied / size));
+    OK(derrimas_finalizers_count(&it, &counts));
+    IS(counts.registrations, size);
+    derrimas_finalizers_destroy(&it);
+}
+
 /* The tables grow, which happens at some sizes, and keep their size afterwards. */
 static void make_room(void)
 {
@@ -140,6 +173,7 @@ int main(int count, char **words)
 {
     size = count > 1 ? strtoull(words[1], NULL, 10) : 1000;
     stride = count > 2 ? strtoull(words[2], NULL, 10) : 8;
+    copies_little();
     OK(derrimas_finalizers_open(&finalizers, NULL));
     make_room();
     cost_registering();
