@@ -143,13 +143,13 @@ COST cost_cancelling(void)
 static void copies_little(void)
 {
     derrimas_finalizers_counts counts;
-    derrimas_finalizers it;
+    derrimas_finalizers it = {0};
 
     OK(derrimas_finalizers_open(&it, NULL));
     copied = 0;
     for (uint64_t n = 0; n < size; n++)
         OK(derrimas_finalizers_register(&it, object_at(n), DERRIMAS_FINALIZERS_NORMAL, n, n, 0, NULL, NULL));
-    printf("%llu bytes copied a registration\n", (unsigned long long)(copied / size));
+    IS(copied <= 160 * size, true); /* the tables double: some 60 to 100; with copies of empty blocks some 800 */
     OK(derrimas_finalizers_count(&it, &counts));
     IS(counts.registrations, size);
     derrimas_finalizers_destroy(&it);
