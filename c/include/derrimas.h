@@ -371,7 +371,13 @@ DERRIMAS_CHECKED derrimas_code derrimas_move_link(derrimas_world *world, derrima
  * derrimas_register_at registers a finalizer of the object that starts at `address`, as derrimas_register_object does,
  * and derrimas_unregister_at removes it. The other three are derrimas_link, derrimas_unlink and derrimas_move_link: the
  * link's word is at `address` plus the offset, and its target is the object that starts at `target`.
- * Refused: as the calls by slots, but never DERRIMAS_BAD_SLOT. */
+ * Refused: derrimas_register_at DERRIMAS_BAD_KIND, DERRIMAS_NO_WORLD, DERRIMAS_NO_OBJECT (the address is 0 or lies outside the
+ * heap), DERRIMAS_NOT_POINTER, DERRIMAS_NOT_START, DERRIMAS_EXHAUSTED, DERRIMAS_TABLE_FULL, DERRIMAS_NO_MEMORY;
+ * derrimas_unregister_at DERRIMAS_NO_WORLD, DERRIMAS_NOT_POINTER, DERRIMAS_NOT_START; derrimas_link_at DERRIMAS_BAD_KIND,
+ * DERRIMAS_NO_WORLD, of the place DERRIMAS_NOT_POINTER, DERRIMAS_OUTSIDE_OBJECT, of the target DERRIMAS_NOT_POINTER,
+ * DERRIMAS_NOT_START, and DERRIMAS_TABLE_FULL, DERRIMAS_NO_MEMORY; derrimas_unlink_at DERRIMAS_BAD_KIND, DERRIMAS_NO_WORLD,
+ * DERRIMAS_NOT_POINTER, DERRIMAS_OUTSIDE_OBJECT; derrimas_move_link_at DERRIMAS_BAD_KIND, DERRIMAS_NO_WORLD, of the old place
+ * DERRIMAS_NOT_POINTER, DERRIMAS_OUTSIDE_OBJECT, and the same of the new one. */
 DERRIMAS_CHECKED derrimas_code derrimas_register_at(derrimas_world *world, uint64_t address, derrimas_kind kind, uint64_t proc,
                                                     uint64_t cd, uint8_t rank, derrimas_registered *registered)
     DERRIMAS_NONNULL(1);
