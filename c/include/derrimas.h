@@ -37,11 +37,12 @@
  *   made. In any other child each copy may be used and destroyed; parent and child then finalize the same objects.
  *
  * A call takes constant time, except for these. They take time proportional to
- * - the heap: derrimas_open, the first derrimas_register of a world, and its first derrimas_link of each kind;
+ * - the heap: derrimas_open, the first derrimas_register or .._register_at of a world, and its first derrimas_link or
+ *   .._link_at of each kind;
  * - the registrations and the unfinished entries, and a few words of bits for each block: derrimas_begin;
  * - the same, the links, and the words of what is scanned: derrimas_collect and derrimas_pause. derrimas_collect scans
  *   all objects that stay. derrimas_pause scans those that derrimas_mark hasn't scanned, those with a word in a block
- *   that was written since derrimas_begin, and those that only finalizers retain;
+ *   that was written since derrimas_begin or in which an object was allocated, and those that only finalizers retain;
  * - the budget, and the words of what is scanned: derrimas_mark;
  * - the words of the object, and the blocks if it needs a new one: derrimas_alloc; derrimas_alloc_or_collect adds a
  *   collection if there is no space;
@@ -52,7 +53,7 @@
  * - the heap, for each rank in use: derrimas_finalize_all.
  *
  * A call that adds to a table or to a line may have to enlarge it, which takes time proportional to its length, and
- * derrimas_move_link may rebuild its table. A world takes memory for its heap when it opens, then for its tables as they
+ * derrimas_move_link and .._move_link_at may rebuild theirs. A world takes memory for its heap when it opens, then for its tables as they
  * grow, and 56 bytes for each entry that was queued, until derrimas_forget frees those of the finished ones.
  *
  * docs/C.md of the repository says how to link, what is proved, and what becomes of each call of gc.h. */
@@ -185,7 +186,7 @@ typedef struct derrimas_linked {
 } derrimas_linked;
 
 /* Counts of a world's life: passes; objects reclaimed; entries ever queued, taken by derrimas_take or passed over by
- * it, and not finished yet; and of the cycle begun last, the objects it has scanned and the pages written meanwhile. */
+ * it, and not finished yet; and of the cycle begun last, the objects it has scanned and the dirty pages. */
 typedef struct derrimas_counts {
     uint64_t passes, reclaimed, queued, taken, outstanding, scans, noted;
 } derrimas_counts;
