@@ -5,6 +5,8 @@ read a file that isn't declared. A run that passed is kept under a sum: the SHA-
 modules that it imports, and the programs and scripts that its arguments name; of what it reads outside of the tree; and of the machine: the versions of all
 packages, the files of all commands, the toolchain, Python and the kernel. A run that failed, or that skipped something, isn't kept.
 
+tests/prove, tests/c-library and tests/unproved.py keep proofs, archives and programs in the same way, under sums of their own.
+
 Entries are stored below ~/.cache/derrimas (XDG_CACHE_HOME). Each has a folder with its record and its files. A record has the sum of each file, and a code made
 with a secret of this user on this machine. So an entry that is damaged, has another name, or was copied from elsewhere isn't accepted. Anyone who can read the
 secret can make one: the folder belongs to this user alone, and nothing is kept in one that doesn't."""
@@ -44,16 +46,26 @@ def stamps(folder):
     return sorted(found)
 
 
+def said_by(*words):
+    """What a command prints, or nothing if there is no such command."""
+    with contextlib.suppress(OSError):
+        return subprocess.run(words, stdin=subprocess.DEVNULL, stdout=subprocess.PIPE, stderr=subprocess.DEVNULL).stdout
+    return b''
+
+
+@functools.lru_cache(maxsize=None)
+def toolchain():
+    """The sum of the kit: its version, and its commands, compilers and libraries."""
+    kit = os.path.dirname(os.path.realpath(shutil.which('rt') or '/'))
+    return sum_of(said_by('rt', 'version'), [(it, stamps(f'{kit}/{it}')) for it in ('.', '../toolchain/bin', '../c', '../rlibs', '../logic_built')])
+
+
 @functools.lru_cache(maxsize=None)
 def machine():
     """The sum of what is installed here."""
-    said = []
-    for words in (['dpkg-query', '-W'], ['rt', 'version']):
-        with contextlib.suppress(OSError):
-            said.append(subprocess.run(words, stdin=subprocess.DEVNULL, stdout=subprocess.PIPE, stderr=subprocess.DEVNULL).stdout)
-    kit = os.path.dirname(os.path.realpath(shutil.which('rt') or '/'))
-    folders = [*os.environ.get('PATH', '').split(':'), kit, f'{kit}/../toolchain/bin', f'{kit}/../c']
-    return sum_of(said, [(it, stamps(it)) for it in folders], sys.version, os.uname().release, platform.machine(), [(it, os.environ.get(it)) for it in VARIABLES])
+    folders = os.environ.get('PATH', '').split(':')
+    return sum_of(said_by('dpkg-query', '-W'), toolchain(), [(it, stamps(it)) for it in folders], sys.version, os.uname().release, platform.machine(),
+                  [(it, os.environ.get(it)) for it in VARIABLES])
 
 
 # ---- files that a tool reads
