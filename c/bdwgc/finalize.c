@@ -256,10 +256,11 @@ static void *reallocate(void *nothing, void *memory, size_t size)
 
 static derrimas_finalizers finalizers; /* opened by the first registration or link; until then it is empty, and all calls are refused */
 
-/* If mark bits are indexed by object, they don't correspond to addresses. Then the library asks about each object and each word separately. */
-#ifdef MARK_BIT_PER_OBJ
+/* If mark bits are indexed by object, they don't correspond to addresses. Then the library asks about each object and each word separately, as it does with
+ * -DHAS_MARKS=false. */
+#if defined(MARK_BIT_PER_OBJ) && !defined(HAS_MARKS)
 #define HAS_MARKS false
-#else
+#elif !defined(HAS_MARKS)
 #define HAS_MARKS true
 #endif
 

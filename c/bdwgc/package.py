@@ -121,6 +121,10 @@ def built(room, name, flags, target='libgc.la'):
     return tree
 
 
+# Further flags for the preprocessor, with which finalize.c is compiled.
+DEFINES = []
+
+
 def replaced(room, name, original, archive):
     """A copy of a build in which this folder's finalize.c is compiled with the package's."""
     tree = f'{room}/{name}'
@@ -130,7 +134,7 @@ def replaced(room, name, original, archive):
     for file in ('finalize.c', 'gc_cleanup.h', 'gc_ephemeron.h'):
         shutil.copy(f'{HERE}/{file}', tree)
     libraries = [f'LIBS={archive} -lpthread -ldl'] if os.path.exists(f'{original}/.libs/libgc.so') else []
-    must(['make', 'libgc.la', f'CPPFLAGS={header(archive)}', *libraries], cwd=tree)
+    must(['make', 'libgc.la', f'CPPFLAGS={" ".join([header(archive), *DEFINES])}', *libraries], cwd=tree)
     return tree
 
 

@@ -162,6 +162,31 @@ goes.set()
 """
 
 
+# The program ends while the procedure runs that has freed the workers.
+FREED_AT_THE_END = """import atexit, gc, threading, time
+from derrimas.finalizers import Finalizers
+from derrimas.workers import Workers
+finalizers, lock, ends, freed = Finalizers(), threading.Lock(), threading.Event(), threading.Event()
+
+def run(entry):
+    ends.wait()
+    gc.collect()
+    freed.set()
+    time.sleep(.2)
+    print('ran', entry.obj, flush=True)
+ring = [Workers(finalizers, lock, run, 1)]
+ring.append(ring)
+with lock:
+    finalizers.register(7, proc=0)
+    finalizers.register(8, proc=0)
+    finalizers.queue_all()
+    ring[0].publish()
+gc.disable()
+del ring
+atexit.register(lambda: (ends.set(), freed.wait()))
+"""
+
+
 FORKED = """import os, sys, threading
 from derrimas.finalizers import Finalizers, Refused
 from derrimas.workers import Workers
@@ -181,6 +206,7 @@ with Workers(finalizers, lock, print, 2) as workers:
 def programs():
     for program, printed, where in (
             (FORGOTTEN, 'ran 7\n', 'a program that stops no workers'), (FREED, 'ran 7\nran 8\n', 'a procedure that frees the workers'),
+            (FREED_AT_THE_END, 'ran 7\nran 8\n', 'a procedure that frees the workers while the program ends'),
             (FORKED, 'NotOpen\n3 2\n', 'a forked child')):
         ended = subprocess.run([sys.executable, '-B', '-W', 'ignore', '-c', program], env={**os.environ, 'PYTHONPATH': os.path.join(HERE, '..', 'python')},
                                capture_output=True, text=True, timeout=60)

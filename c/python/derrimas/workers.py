@@ -13,9 +13,9 @@ While there are workers, each call of their Finalizers is made with the lock, wh
 runs in a thread that Python doesn't know by a name, without the lock. What it raises counts as its end, and is raised by the next wait or stop. Only one thread at
 a time runs Python's own code: several workers serve procedures that wait for something else. A procedure that doesn't return keeps the program from ending."""
 from __future__ import annotations
-import ctypes, os, threading, weakref
+import atexit, contextlib, ctypes, os, threading, weakref
 from ctypes import CFUNCTYPE, POINTER, byref, c_size_t, c_uint32, c_uint64, c_void_p
-from typing import Any, Callable, List, Optional
+from typing import Any, Callable, List, Optional, Set
 from ._library import declare, struct
 from .finalizers import LIBRARY, Entry, Finalizers, Handle, Refused
 
@@ -35,10 +35,46 @@ for name, types in {"start": [POINTER(Options), POINTER(c_uint64)], "publish": [
     declare(LIBRARY, f"derrimas_workers_{name}", c_uint32, [POINTER(Crew), *types])
 
 
-def ended(crew: Any, options: Any, finalizers: Finalizers) -> None:
-    """Stops workers that still run; what they call stays until then. If one of them frees the last reference, another thread waits for them."""
-    if crew.inside and LIBRARY.derrimas_workers_stop(byref(crew), NO_LIMIT, None) == IN_PROCEDURE:
-        threading.Thread(target=ended, args=(crew, options, finalizers)).start()
+class Running:
+    """Workers that were started, with what they call, until they are stopped."""
+
+    def __init__(self, crew: Any, options: Any, finalizers: Finalizers) -> None:
+        self.crew, self.options, self.finalizers, self.stopping = crew, options, finalizers, threading.Lock()
+        EVERY.add(self)
+
+    def end(self, waits: bool = False) -> None:
+        """Stops the workers, unless another thread does, for which it may wait. If one of them makes this call, another thread stops them."""
+        if not self.stopping.acquire(blocking=waits):
+            return
+        try:
+            is_own = self.crew.inside and LIBRARY.derrimas_workers_stop(byref(self.crew), NO_LIMIT, None) == IN_PROCEDURE
+        finally:
+            self.stopping.release()
+        if not is_own:
+            EVERY.discard(self)
+            return
+        with contextlib.suppress(RuntimeError):  # the program ends, and then end_all stops them
+            threading.Thread(target=self.end).start()
+
+
+EVERY: Set[Running] = set()
+
+
+def end_all() -> None:
+    """At the program's end: also workers that one of their procedures frees meanwhile."""
+    for running in list(EVERY):
+        running.end(waits=True)
+
+
+def forget_all() -> None:
+    """In a forked child, which has none of the threads: a stop would wait for them."""
+    for running in EVERY:
+        running.crew.inside = None
+    EVERY.clear()
+
+
+atexit.register(end_all)
+os.register_at_fork(after_in_child=forget_all)
 
 
 class Workers:
@@ -61,11 +97,15 @@ class Workers:
             except BaseException as why:  # nothing may be raised through C
                 raised.append(why)
         self.handle, started = Crew(), c_uint64()
-        EVERY.add(self)
         options = Options(ctypes.sizeof(Options), ctypes.pointer(finalizers.handle), LOCK(entered), LOCK(left), RUN(ran), None, count)
-        self._call("start", byref(options), byref(started))
+        running = Running(self.handle, options, finalizers)
+        try:
+            self._call("start", byref(options), byref(started))
+        except Refused:
+            running.end()
+            raise
         self.started = started.value
-        self.end = weakref.finalize(self, ended, self.handle, options, finalizers)
+        weakref.finalize(self, running.end)
 
     def __enter__(self) -> Workers:
         return self
@@ -108,15 +148,3 @@ class Workers:
         counts = Counts()
         self._call("count", byref(counts))
         return counts
-
-
-EVERY: weakref.WeakSet[Workers] = weakref.WeakSet()
-
-
-def forget() -> None:
-    """In a forked child, which has none of the threads: a stop would wait for them."""
-    for workers in EVERY:
-        workers.handle.inside = None
-
-
-os.register_at_fork(after_in_child=forget)
