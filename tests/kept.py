@@ -12,6 +12,9 @@ with a secret of this user on this machine. So an entry that is damaged, has ano
 secret can make one: the folder belongs to this user alone, and nothing is kept in one that doesn't."""
 import contextlib, functools, glob, hashlib, hmac, json, os, platform, re, shutil, stat, subprocess, sys, tempfile
 
+# What tests/prove leaves in the folder `out` of a library for C: the checked crate, from which tests/c-library compiles it.
+CHECKED = 'checked'
+
 # The variable by which the gate passes a tool the sum of what it reads, for random runs: tests/tree.py.
 READ = 'DERRIMAS_READ'
 # Variables that change the behaviour of a command.

@@ -27,9 +27,9 @@
  * - A signal handler may call only derrimas_finalizers_has_waiting. A forked child has a copy of each handle: it may use one
  *   if no other thread was in a call on it at the fork, for example if the fork happens under the host's lock.
  * - Before the host frees, reuses or moves the memory of the word of a link or an ephemeron, it unlinks or moves the link,
- *   or ends or moves the ephemeron. A pass has the host write to the word of each one that it clears, even if no object has
- *   the word. A pass that ends has removed those whose words lie in objects that it left unmarked: these may be freed
- *   without further calls.
+ *   or ends or moves the ephemeron. A word whose number stays when its memory moves needs no call. A pass has the host write
+ *   to the word of each one that it clears, even if no object has the word. A pass that ends has removed those whose words
+ *   lie in objects that it left unmarked: these may be freed without further calls.
  * - Before the host reclaims an object at any other time than after a pass that left it unmarked, it removes the object's
  *   registration, the links to it, the ephemerons whose key it is and its cleanups: a pass asks whether the object is
  *   marked, and a new object of the same number would inherit them. A pass that ends leaves none of these of an object that
@@ -208,13 +208,16 @@ typedef struct derrimas_finalizers_passed {
 /* What a question asks of each of its objects, words or regions. */
 typedef enum derrimas_ask {
     DERRIMAS_ASK_IS_MARKED = 1,        /* is the object marked? */
-    DERRIMAS_ASK_MARK_CHILDREN = 2,    /* mark the objects to which its words point, and all that those reach */
+    DERRIMAS_ASK_MARK_CHILDREN = 2,    /* mark the objects to which its words point, and all that those reach; an earlier
+                                        * object of such a question may have marked the object itself */
     DERRIMAS_ASK_MARK_OTHERS = 3,      /* the same, but without the words that point to the object itself */
     DERRIMAS_ASK_MARK = 4,             /* mark the object and all that it reaches; its entry is queued once the objects of all
                                         * entries are marked */
     DERRIMAS_ASK_MARK_ALONE = 5,       /* mark the object; all else that it reaches is marked already; its entry is queued
-                                        * likewise, or at once if it is of kind UNREACHABLE */
-    DERRIMAS_ASK_CLEAR = 6,            /* write zero to the word; its link or ephemeron is removed */
+                                        * likewise, or at once if it is of kind UNREACHABLE. A host that copies marked objects
+                                        * also updates the words of the copy */
+    DERRIMAS_ASK_CLEAR = 6,            /* write zero to the word; its link or ephemeron is removed, but not a link of the
+                                        * other kind at the same word */
     DERRIMAS_ASK_HOLDER_IS_MARKED = 7, /* is the object that contains the word marked, or does no object contain it? if the
                                         * answer is no at the end of a pass, its link or ephemeron is removed, and the word
                                         * stays as it is */
