@@ -342,25 +342,20 @@ def is_named(clause, names):
     return clause in names or clause.split('::')[-1] in names
 
 
-def try_laws(edits, kept):
-    """The verdicts on wrong definitions: the laws that they name must not be proved any more. None where several have to be tried apart."""
-    if edits[0].why:
-        return [Verdict(False, f'BAD EDIT: {edits[0].why}')] if len(edits) == 1 else None
-    owner = edits[0].owner
-    lost, lemmas, bad = lost_laws(owner, merged(owner, [it for edit in edits for it in edit.changes]), kept)
-    wanted = {law for edit in edits for law in edit.laws}
-    missing = {it for it in wanted if it not in lost | {one.split('::')[-1] for one in lost}}
-    others = {it for it in lost if not is_named(it, wanted)}
-    if len(edits) > 1:
-        with_others = f' (with {len(edits) - 1} more)'
-        return [refused_by_laws(it, with_others) for it in edits] if not missing | others and not bad else None
+def try_law(edit, kept):
+    """The verdict on a wrong definition: the laws that it names must not be proved any more."""
+    if edit.why:
+        return Verdict(False, f'BAD EDIT: {edit.why}')
+    lost, lemmas, bad = lost_laws(edit.owner, merged(edit.owner, edit.changes), kept)
+    missing = {it for it in edit.laws if it not in lost | {one.split('::')[-1] for one in lost}}
+    others = {it for it in lost if not is_named(it, edit.laws)}
     if bad:
-        return [Verdict(False, bad[0])]
+        return Verdict(False, bad[0])
     if missing:
-        return [Verdict(False, f"NOT REFUSED: the laws still have {', '.join(sorted(missing))}")]
-    if edits[0].is_alone and others:
-        return [Verdict(False, f"NOT ALONE: the laws lost {', '.join(sorted(others))} too")]
-    return [refused_by_laws(edits[0], f", for {', '.join(lemmas)}" if lemmas else '')]
+        return Verdict(False, f"NOT REFUSED: the laws still have {', '.join(sorted(missing))}")
+    if edit.is_alone and others:
+        return Verdict(False, f"NOT ALONE: the laws lost {', '.join(sorted(others))} too")
+    return refused_by_laws(edit, f", for {', '.join(lemmas)}" if lemmas else '')
 
 
 def moved(changes, function):
@@ -464,27 +459,8 @@ def try_together(edits, kept):
     return told
 
 
-def are_apart(one, other):
-    """Whether two wrong definitions are of different laws and of different lines."""
-    touches = lambda change, others: any(it.file == change.file and it.first <= change.end and change.first <= it.end for it in others)
-    names = lambda edit: {it.split('::')[-1] for it in edit.laws}
-    return not names(one) & names(other) and not any(touches(it, other.changes) for it in one.changes)
-
-
-def groups_of_laws(edits):
-    """Wrong definitions in groups that one check of the laws can tell apart: first those of the laws that have most."""
-    groups, per_law = [], collections.Counter(law for it in edits for law in it.laws)
-    for edit in sorted(edits, key=lambda it: (-max(per_law[law] for law in it.laws), it.name)):
-        open_to = [it for it in groups if all(are_apart(edit, other) for other in it)]
-        if open_to:
-            min(open_to, key=len).append(edit)
-        else:
-            groups.append([edit])
-    return groups
-
-
-def batches_of(edits, apart):
-    """The edits in groups that one check can tell apart, and by themselves those that change more than functions' bodies. `apart`: the laws' too."""
+def batches_of(edits):
+    """The edits in groups that one check can tell apart, and by themselves those that change more than functions' bodies."""
     of_bodies = [it for it in edits if it.is_of_bodies]
     # as many from the first as there will be, so that all are about as large
     groups = [[] for _ in range(-(-len(of_bodies) // MOST))]
@@ -496,8 +472,7 @@ def batches_of(edits, apart):
             min(open_to, key=len).append(edit)
         else:
             groups.append([edit])
-    alone = [it for it in edits if it.is_alone and not it.wants and not it.why and not apart]
-    return groups + groups_of_laws(alone) + [[it] for it in edits if not it.is_of_bodies and it not in alone]
+    return groups + [[it] for it in edits if not it.is_of_bodies]
 
 
 def unpack(path, folder):

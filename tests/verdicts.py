@@ -6,15 +6,15 @@ makes false; the contracts, types, specs and lemma files of the crate without th
 toolchain's logic; and the text of what judges (JUDGES). An edit that was tried over the whole crate has a sum of the whole crate. Lines that are comments, and
 empty ones, count for nothing.
 
-A line that isn't true, but has the right sum, is found once its edit is drawn. A run draws one edit in twenty by the hash of the tree, so another tree draws
-others: such a line is found within 14 trees with odds of one half, and within 59 with odds of 95 in 100."""
+A line that isn't true, but has the right sum, is found once its edit is drawn. A run draws one edit in twenty by the hash of the tree, those of one check
+together, so another tree draws others: such a line is found within 14 trees with odds of one half, and within 59 with odds of 95 in 100."""
 import collections, hashlib, os
 from toolchain import logic
 
 COMMENT = {'.rt': '//', '.antt': '--', '.edit': '#', '.py': '#'}
 # What decides a verdict, beside the toolchain. The rest of tests/edits decides which edits are tried, and what of it is told.
 JUDGES = ('judging.py', 'toolchain.py')
-# An edit in so many is tried again whatever its line says, so that a line that isn't true is found within some runs.
+# One check in so many is made again whatever the lines of its edits say, so that a line that isn't true is found within some runs.
 ONE_IN = 20
 
 
@@ -33,7 +33,7 @@ def text_of(path):
 
 
 def is_drawn(name, tree):
-    """Whether the edit is one of those that a run over this tree tries again."""
+    """Whether the check that begins with this edit is one of those that a run over this tree makes again."""
     return int(sum_of(tree, name), 16) % ONE_IN == 0
 
 
