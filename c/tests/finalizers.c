@@ -787,6 +787,34 @@ static void each_answer(void)
     }
 }
 
+/* Kinds that alternate cost no further questions, and all 256 ranks are sorted. Of 1,000 unmarked objects, 250 of each kind, a pass asks 16 questions whether
+ * they are marked, 12 about children, the 16 again, 12 to mark what it picks, and 8 for the kind UNREACHABLE, whose entries come last. */
+static void alternating_kinds(void)
+{
+    static const derrimas_finalizers_kind kind[] = {DERRIMAS_FINALIZERS_NORMAL, DERRIMAS_FINALIZERS_IGNORE_SELF, DERRIMAS_FINALIZERS_NO_ORDER, DERRIMAS_FINALIZERS_UNREACHABLE};
+    derrimas_finalizers_entry entry;
+    derrimas_question question;
+    uint64_t asked = 0, came = 0;
+
+    opens();
+    for (uint64_t n = 1; n <= 1000; n++)
+        OK(derrimas_finalizers_register(&finalizers, n, kind[n % 4], n, 0, (uint8_t)(97 * n), NULL, NULL));
+    OK(derrimas_finalizers_begin(&finalizers));
+    for (; derrimas_finalizers_next(&finalizers, 0, &question, NULL) == DERRIMAS_FINALIZERS_OK; asked++)
+        ;
+    IS(asked, 64);
+    for (int is_last = 0; is_last < 2; is_last++)
+        for (unsigned rank = 0; rank < 256; rank++)
+            for (uint64_t n = 1; n <= 1000; n++)
+                if ((uint8_t)(97 * n) == rank && (n % 4 == 3) == is_last) {
+                    OK(derrimas_finalizers_take_finished(&finalizers, &entry));
+                    IS(entry.obj, n);
+                    came++;
+                }
+    IS(came == 1000 && counted().waiting == 0, true);
+    closes();
+}
+
 /* A handle may be destroyed while a pass is open. The result of a pass may be left out. */
 static void endings(void)
 {
@@ -1606,6 +1634,7 @@ int main(void)
 {
     both();
     each_answer();
+    alternating_kinds();
     endings();
     chosen();
     host_without(true);

@@ -1,14 +1,22 @@
 //! Worked rows of ephemerons over the reference heap. Its atomic objects aren't scanned, so their words may be ephemerons. Each row is a table of steps.
 
+ghost use Rattle.std.specs.Prelude.{◌≡◌, ℕ, OnOk};
+ghost use Rattle.std.specs.FinMap.{from_entries};
+ghost use Rattle.fz_marker.specs.Marking.{IsClosed};
+ghost use Rattle.fz_model.specs.State.{Map};
+ghost use Rattle.fz_model.specs.declared.answers.Registration.{Registration};
+ghost use Rattle.fz_pass.specs.Marks.{AreRegistered, AreTargets};
+
 use crate::equal::must_be;
-use crate::pass::{check_registered, check_targets, find};
+use fz_dirty::Dirty;
 use fz_finalizers::LinkKind::{Long, Short};
 use fz_finalizers::{Addr, Entry, Finalizer, Finalizers, Kind, LinkKind};
 use fz_heap::Heap;
 use fz_marked::Marked;
 use fz_marker::Marker;
-use fz_model::ObjKind;
 use fz_model::ObjKind::{Atomic, Scanned};
+use fz_model::{ObjKind, Refusal, Word};
+use fz_table::{Pairs, Registrations};
 use std::alloc::Global;
 use std::process::Abort;
 use std::test::Fail;
@@ -97,6 +105,42 @@ fn register(rt: &impl Abort, stage: &mut Stage, object: usize, procedure: u64) {
     let object = address_of(stage, Some(object));
     let answer = stage.finalizers.register(object, finalizer);
     must_be(rt, answer.is_ok(), true, "a registration");
+}
+
+/// Marks what one root reaches.
+fn find(alloc: Global, marked: &mut Marked, root: Word) -> Result<(), Fail>
+    ensures heap { marked.new.heap ≡ marked.old.heap }
+    ensures closed { OnOk result (IsClosed marked.new.heap.objects marked.new.marker.marked) }
+{
+    let clean = Dirty::new(alloc, marked.heap.blocks())?;
+    marked.marker.begin();
+    marked.marker.root(&marked.heap, root);
+    marked.marker.finish(&marked.heap, &clean);
+    Ok(())
+}
+
+/// Fails if one of the registrations of a table has an address that isn't an object.
+fn check_registered(heap: &Heap, registrations: Registrations<'_>) -> Result<(), Refusal>
+    ensures { OnOk result ((all : Map Registration) → from_entries registrations.entry ≡ all → AreRegistered heap.now.objects all) }
+{
+    for (object, _registration) in registrations {
+        if heap.facts(object).is_none() {
+            return Err(Refusal::NotStart);
+        }
+    }
+    Ok(())
+}
+
+/// Fails if one of these links has a target that isn't an object.
+fn check_targets(heap: &Heap, links: Pairs<'_, Addr, Addr>) -> Result<(), Refusal>
+    ensures { OnOk result ((all : Map ℕ) → from_entries links.entry ≡ all → AreTargets heap.now.objects all) }
+{
+    for (_link, target) in links {
+        if heap.facts(target).is_none() {
+            return Err(Refusal::NotStart);
+        }
+    }
+    Ok(())
 }
 
 /// A collection with this root: what it queued, and how many objects it reclaimed.

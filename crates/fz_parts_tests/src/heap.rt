@@ -1,6 +1,4 @@
 //! Tests of a heap.
 
 mod calls;
-mod comparison;
-mod plain;
 mod tests;

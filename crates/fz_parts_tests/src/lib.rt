@@ -11,8 +11,6 @@ mod ephemerons;
 #[cfg(test)]
 mod equal;
 #[cfg(test)]
-mod finalizers;
-#[cfg(test)]
 mod hash;
 #[cfg(test)]
 mod heap;
@@ -22,8 +20,6 @@ mod line;
 mod links;
 #[cfg(test)]
 mod marker;
-#[cfg(test)]
-mod pass;
 #[cfg(test)]
 mod ready;
 #[cfg(test)]

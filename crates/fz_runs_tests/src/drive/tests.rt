@@ -1,11 +1,12 @@
 //! Runs of whole scripts.
 
-mod cuts;
-
 ghost use Rattle.std.specs.Prelude.{◌≡◌, ◌≤◌, ◌<◌, ◌^◌, length};
 
 use crate::drive::Row;
-use crate::drive::scripts::{FIRST_SMALL, LARGE, LAST_SMALL, ONE_OBJECT, TWO_IN_ORDER};
+use crate::drive::scripts::{
+    DROPPED_IN_A_CYCLE, DROPPED_IN_A_CYCLE_OTHERWISE, FIRST_SMALL, LARGE, LAST_SMALL, ONE_OBJECT,
+    TWO_IN_ORDER,
+};
 use crate::equal::must_be;
 use arrayvec::ArrayVec;
 use fz_model::{MAX_BLOCKS, MAX_FRAMES, MAX_WORKERS, Refusal};
@@ -138,6 +139,15 @@ fn the_limits_are_reported(rt: HostRuntime) {
     must_run_all(&rt, rt.alloc(), &LARGE, WHOLE);
 }
 
+/// An object dropped inside a cycle is found unreachable by one of two passes.
+#[test]
+fn what_is_dropped_inside_a_cycle_is_found(rt: HostRuntime) {
+    let outcome = run(rt.alloc(), DROPPED_IN_A_CYCLE.script, WHOLE);
+    let text = outcome.text.as_slice();
+    let is_right = text == DROPPED_IN_A_CYCLE.report || text == DROPPED_IN_A_CYCLE_OTHERWISE;
+    must_hold(&rt, is_right, 0, 0);
+}
+
 #[test]
 fn a_summary_has_the_numbers_of_the_end(rt: HostRuntime) {
     let outcome = run(rt.alloc(), TWO_IN_ORDER.script, WHOLE);
@@ -206,40 +216,6 @@ fn a_reply_is_one_write(rt: HostRuntime) {
         ..WHOLE
     };
     must_run(&rt, rt.alloc(), row, limits, 0);
-}
-
-/// Truncates each of these scripts after each of its lines, with and without the LF.
-fn must_end_alike(rt: &impl Abort, alloc: Global, rows: &[Row]) {
-    for (number, row) in rows.iter().enumerate() {
-        if row.fault.is_some() {
-            continue;
-        }
-        for (place, byte) in row.script.iter().enumerate() {
-            if *byte == b'\n' {
-                must_hold(rt, ends_alike(alloc, *row, place), number, place);
-            }
-        }
-    }
-}
-
-#[test]
-fn a_last_line_needs_no_line_feed(rt: HostRuntime) {
-    must_end_alike(&rt, rt.alloc(), &FIRST_SMALL);
-    must_end_alike(&rt, rt.alloc(), &LAST_SMALL);
-}
-
-/// Whether the script ends in the same way before and after the LF at this index, with the replies to the lines so far.
-fn ends_alike(alloc: Global, row: Row, place: usize) -> bool
-    requires { place < length row.script.now }
-{
-    let cut = run(alloc, &row.script[..place], WHOLE);
-    let ended = run(alloc, &row.script[..place + 1], WHOLE);
-    let replies = first_lines(row.report, lines_in(&row.script[..place + 1]));
-    let text = cut.text.as_slice();
-    cut.result == ended.result
-        && text == ended.text.as_slice()
-        && text.starts_with(replies)
-        && text[replies.len()..].starts_with(b"end enqueued ")
 }
 
 /// Scripts with a malformed line, their reports, and the number of that line.

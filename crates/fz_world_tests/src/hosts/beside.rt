@@ -1,8 +1,6 @@
-//! The heap of records, and a graph whose finalizers ask questions, compared with a world: for the same graphs they queue the same objects and retain the
-//! same.
+//! The heap of records, compared with a world: for the same graphs both queue the same objects and retain the same.
 
 use crate::equal::{at, must_be};
-use crate::hosts::asked::{Asked, number_of};
 use fz_finalizers::{Finalizer, Kind};
 use fz_model::LinkKind::{Long, Short};
 use fz_model::ObjKind::Scanned;
@@ -32,13 +30,11 @@ impl Random {
     }
 }
 
-/// A world, a heap of records and a graph with the same objects. Each object is in the slot of its number, until that slot is cleared; in the graph its
-/// number is `number_of` its slot.
+/// A world and a heap of records with the same objects. Each object is in the slot of its number, until that slot is cleared.
 #[derive(Drop)]
 struct All {
     world: World,
     runtime: Runtime,
-    asked: Asked,
     starts: Vec<Addr>,
     ids: Vec<RecordId>,
 }
@@ -52,7 +48,6 @@ fn objects(rt: &impl Abort, alloc: Global) -> All {
     let mut all = All {
         world: World::open(alloc, config).expect(rt, "a world"),
         runtime: Runtime::new(alloc, OBJECTS as u32).expect(rt, "a runtime"),
-        asked: Asked::new(rt, alloc),
         starts: Vec::new(alloc),
         ids: Vec::new(alloc),
     };
@@ -81,11 +76,9 @@ fn refer(rt: &impl Abort, all: &mut All, object: u64, field: u64, to: u64) {
     let target = id_of(rt, all, to);
     all.runtime
         .set(id, field as usize % FIELDS, Reference(target));
-    all.asked
-        .refer(number_of(object), field as usize, number_of(to));
 }
 
-/// Registers an object, with a kind that all three have, and client data that may refer to another object.
+/// Registers an object, with a kind that both have, and client data that may refer to another object.
 fn register(rt: &impl Abort, all: &mut All, object: u64, random: &mut Random) {
     let (kind, same_kind) = match random.below(3) {
         0 => (RegKind::Normal, Kind::Normal),
@@ -112,12 +105,6 @@ fn register(rt: &impl Abort, all: &mut All, object: u64, random: &mut Random) {
     if all.runtime.heap().stands(id) {
         all.runtime.register(id, finalizer).expect(rt, "the same");
     }
-    let client_data = if to < OBJECTS { number_of(to) } else { 0 };
-    let asked_finalizer = Finalizer {
-        client_data,
-        ..finalizer
-    };
-    all.asked.register(rt, number_of(object), asked_finalizer);
 }
 
 /// Registers a link at a field of an object, to another object.
@@ -134,8 +121,6 @@ fn link(rt: &impl Abort, all: &mut All, object: u64, to: u64, random: &mut Rando
             .link(kind, id.word(field as usize % FIELDS), target)
             .expect(rt, "the same");
     }
-    all.asked
-        .link(rt, kind, number_of(object), field as usize, number_of(to));
 }
 
 /// Creates edges, a registration and links for an object.
@@ -158,53 +143,32 @@ fn settle(rt: &impl Abort, all: &mut All, object: u64, random: &mut Random) {
     if random.below(8) == 0 {
         let id = id_of(rt, all, object);
         all.runtime.add_root(id).expect(rt, "memory");
-        all.asked.add_root(number_of(object));
     } else {
         all.world.set(0, object, 0).expect(rt, "a slot");
     }
 }
 
-/// Takes what all three have queued, in order, and finishes it. Returns how many entries were taken so far.
+/// Takes what both have queued, in order, and finishes it. Returns how many entries were taken so far.
 fn take_same(rt: &impl Abort, all: &mut All, taken: u64) -> u64 {
     for number in taken..u64::MAX {
         let Some(entry) = all.world.next(number) else {
             must_be(rt, all.runtime.take().is_none(), true, "no other pick");
-            must_be(rt, all.asked.take().is_none(), true, "no other pick");
             return number;
         };
-        let same = all.runtime.take().expect(rt, "an entry of all");
+        let same = all.runtime.take().expect(rt, "an entry of both");
         let numbers = (same.reg, same.birth, same.proc);
         must_be(rt, numbers, (entry.reg, 0, entry.proc), "a pick");
-        let third = all.asked.take().expect(rt, "an entry of all");
-        let numbers = (third.reg, third.obj, third.proc);
-        let number_of_its = number_of(entry.proc);
-        must_be(
-            rt,
-            numbers,
-            (entry.reg, number_of_its, entry.proc),
-            "its pick",
-        );
-        all.asked.finish(rt, &third);
         all.world.finish(&entry).expect(rt, "the end");
         all.runtime.finish(&same).expect(rt, "the end");
     }
     taken
 }
 
-/// All three have the same objects.
+/// Both have the same objects.
 fn stand_same(rt: &impl Abort, all: &All) {
     for (start, id) in all.starts.iter().zip(all.ids.iter()) {
         let stands = all.world.object(*start).is_some();
         must_be(rt, all.runtime.heap().stands(*id), stands, "an object");
-    }
-    for (start, slot) in all.starts.iter().zip(0..OBJECTS) {
-        let stands = all.world.object(*start).is_some();
-        must_be(
-            rt,
-            all.asked.stands(number_of(slot)),
-            stands,
-            "a numbered object",
-        );
     }
 }
 
@@ -222,7 +186,6 @@ fn collect_same(rt: &impl Abort, alloc: Global, seed: u64) -> u64 {
     for _ in 0..6 {
         let passed = all.world.collect().expect(rt, "a collection");
         must_be(rt, all.runtime.collect().picked, passed.picked, "as many");
-        must_be(rt, all.asked.collect(rt).picked, passed.picked, "as many");
         stand_same(rt, &all);
         taken = take_same(rt, &mut all, taken);
     }

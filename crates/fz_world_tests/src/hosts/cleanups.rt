@@ -1,8 +1,6 @@
-//! Cleanups of records: worked rows, and random graphs whose queues a plain reading checks.
+//! Cleanups of records: worked rows.
 
 use crate::equal::{at, must_be, push};
-use crate::hosts::beside::Random;
-use crate::hosts::sets::{COUNT, any, has, set};
 use fz_finalizers::{Cleanup, Entry, Finalizer, Kind, LinkKind};
 use fz_model::LinkKind::{Long, Short};
 use own_heap::Field::{Nothing, Reference};
@@ -13,7 +11,7 @@ use std::test::*;
 
 /// A step of a row. Records are named by their numbers, in the order in which they were made.
 #[derive(Clone, Copy)]
-pub(crate) enum Step {
+enum Step {
     /// Makes a record.
     Make,
     /// The first field of a record refers to another.
@@ -41,7 +39,7 @@ pub(crate) enum Step {
 
 /// A heap, its records by number, those that were given a finalizer or a cleanup, and the entries that were taken and not finished.
 #[derive(Drop)]
-pub(crate) struct Records {
+struct Records {
     runtime: Runtime,
     ids: Vec<RecordId>,
     furnished: Vec<RecordId>,
@@ -303,7 +301,7 @@ const NUMBERS_AND_RANKS: [Step; 12] = [
 ];
 
 /// The worked rows.
-pub(crate) const ROWS: [&[Step]; 6] = [
+const ROWS: [&[Step]; 6] = [
     &TWO_OF_ONE_OBJECT,
     &SHORT_BEFORE_AND_LONG_AFTER_A_FINALIZER,
     &DATA_LEADS_TO_THE_OBJECT,
@@ -329,168 +327,4 @@ fn carry_out_all(rt: &impl Abort, alloc: Global, rows: &[&[Step]]) {
 #[test]
 fn cleanups_of_worked_rows(rt: HostRuntime) {
     carry_out_all(&rt, rt.alloc(), &ROWS);
-}
-
-/// How many ranks a random graph has.
-const RANKS: u8 = 3;
-
-/// A cleanup of a graph: its number, its record, when it is due, its rank, and the record that is its client data, if any.
-pub(crate) type Attached = (u64, usize, LinkKind, u8, Option<usize>);
-
-/// A graph as lists, for a plain reading.
-#[derive(Drop)]
-pub(crate) struct Plain {
-    pub(crate) words: Vec<(usize, usize)>,
-    pub(crate) roots: Vec<usize>,
-    pub(crate) registered: Vec<usize>,
-    pub(crate) cleanups: Vec<Attached>,
-}
-
-/// A random graph. Numbers are given to registrations and cleanups in the order of the records.
-pub(crate) fn drawn(rt: &impl Abort, alloc: Global, random: &mut Random) -> (Plain, Records) {
-    let mut plain = Plain {
-        words: Vec::new(alloc),
-        roots: Vec::new(alloc),
-        registered: Vec::new(alloc),
-        cleanups: Vec::new(alloc),
-    };
-    let mut records = heap_of(rt, alloc);
-    for _ in 0..COUNT {
-        make(rt, &mut records);
-    }
-    let mut number = 0_u64;
-    for record in 0..COUNT {
-        number = furnish(rt, &mut plain, &mut records, (record, number), random);
-    }
-    (plain, records)
-}
-
-/// Gives a record a word, a root, a finalizer and cleanups, each or not. Returns the next number.
-fn furnish(
-    rt: &impl Abort,
-    plain: &mut Plain,
-    records: &mut Records,
-    (record, first): (usize, u64),
-    random: &mut Random,
-) -> u64 {
-    let mut number = first;
-    if random.below(2) == 0 {
-        let to = any(random);
-        push(rt, &mut plain.words, (record, to));
-        carry_out(rt, records, Step::Refer(record, to));
-    }
-    if random.below(4) == 0 {
-        push(rt, &mut plain.roots, record);
-        carry_out(rt, records, Step::Root(record));
-    }
-    if random.below(3) == 0 {
-        push(rt, &mut plain.registered, record);
-        carry_out(rt, records, Step::Register(record, 7));
-        number = number.saturating_add(1);
-    }
-    for _ in 0..random.below(3) {
-        let when = if random.below(2) == 0 { Short } else { Long };
-        let rank = (random.below(u64::from(RANKS)) % 256) as u8;
-        let other = any(random);
-        let data = (random.below(6) == 0).then_some(other);
-        push(rt, &mut plain.cleanups, (number, record, when, rank, data));
-        carry_out(rt, records, Step::Attach(record, when, number, data, rank));
-        number = number.saturating_add(1);
-    }
-    number
-}
-
-/// What some records reach: as often as there are records, each word of what was reached.
-fn spread(plain: &Plain, starts: [bool; COUNT]) -> [bool; COUNT] {
-    let mut reached = starts;
-    for _ in 0..COUNT {
-        for (from, to) in plain.words.iter() {
-            if has(&reached, *from) {
-                set(&mut reached, *to);
-            }
-        }
-    }
-    reached
-}
-
-/// What the roots and the client data of cleanups reach.
-pub(crate) fn found(plain: &Plain) -> [bool; COUNT] {
-    let mut starts = [false; COUNT];
-    for record in plain.roots.iter() {
-        set(&mut starts, *record);
-    }
-    for (_, _, _, _, data) in plain.cleanups.iter() {
-        if let Some(record) = data {
-            set(&mut starts, *record);
-        }
-    }
-    spread(plain, starts)
-}
-
-/// What is found, and what the registered records reach, found or not.
-pub(crate) fn retained(plain: &Plain, found: &[bool; COUNT]) -> [bool; COUNT] {
-    let mut starts = *found;
-    for record in plain.registered.iter() {
-        set(&mut starts, *record);
-    }
-    spread(plain, starts)
-}
-
-/// The numbers of the due cleanups of a moment, by rank, then number.
-pub(crate) fn due(
-    rt: &impl Abort,
-    plain: &Plain,
-    when: LinkKind,
-    kept: &[bool; COUNT],
-    out: &mut Vec<u64>,
-) {
-    for rank in 0..RANKS {
-        for (number, record, moment, its_rank, _) in plain.cleanups.iter() {
-            if *moment == when && *its_rank == rank && !has(kept, *record) {
-                push(rt, out, *number);
-            }
-        }
-    }
-}
-
-/// Compares a collection of a graph with a plain reading: which cleanups are queued before and after the finalizers, and which records are left.
-fn compare(rt: &impl Abort, alloc: Global, random: &mut Random) -> u64 {
-    let (plain, mut records) = drawn(rt, alloc, random);
-    let found = found(&plain);
-    let retained = retained(&plain, &found);
-    let mut want = Vec::new(alloc);
-    due(rt, &plain, Short, &found, &mut want);
-    let short = want.len() as u64;
-    due(rt, &plain, Long, &retained, &mut want);
-    let all = want.len() as u64;
-    let picked = records.runtime.collect().picked;
-    let picks = picked.saturating_sub(all);
-    let mut place = 0;
-    for taken in 0..picked {
-        let entry = take(rt, &mut records);
-        let is_pick = taken >= short && taken < short.saturating_add(picks);
-        must_be(rt, entry.obj != 0, is_pick, "whether it has an object");
-        if !is_pick {
-            must_be(rt, Some(entry.reg), want.get(place).copied(), "the cleanup");
-            place = place.saturating_add(1);
-        }
-    }
-    for record in 0..COUNT {
-        carry_out(
-            rt,
-            &mut records,
-            Step::Stands(record, has(&retained, record)),
-        );
-    }
-    all
-}
-
-#[test]
-fn random_graphs_are_cleaned_up_as_a_plain_reading_does(rt: HostRuntime) {
-    let mut random = Random(11);
-    let mut cleaned = 0_u64;
-    for _ in 0..2_000 {
-        cleaned = cleaned.saturating_add(compare(&rt, rt.alloc(), &mut random));
-    }
-    must_be(&rt, cleaned > 1_000, true, "many cleanups came");
 }

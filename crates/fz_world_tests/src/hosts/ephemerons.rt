@@ -11,7 +11,7 @@ use std::test::*;
 
 /// A step of a row. Records are named by their numbers, in the order in which they were made.
 #[derive(Clone, Copy)]
-pub(crate) enum Step {
+enum Step {
     /// Makes a record, to which a slot of the frame refers.
     Make(usize),
     /// A slot of the frame refers to a record, or to none.
@@ -43,14 +43,14 @@ const FRAMES: usize = 3;
 
 /// A heap, its frame, whose fields are slots, and its records by number.
 #[derive(Drop)]
-pub(crate) struct Stage {
-    pub(crate) runtime: Runtime,
+struct Stage {
+    runtime: Runtime,
     frame: Vec<RecordId>,
     ids: Vec<RecordId>,
 }
 
 /// A heap without other records than the frame, which are its roots.
-pub(crate) fn open(rt: &impl Abort, alloc: Global) -> Stage {
+fn open(rt: &impl Abort, alloc: Global) -> Stage {
     let mut stage = Stage {
         runtime: Runtime::new(alloc, 32).expect(rt, "a runtime"),
         frame: Vec::new(alloc),
@@ -70,7 +70,7 @@ fn made(rt: &impl Abort, runtime: &mut Runtime, fields: [Field; FIELDS]) -> Reco
 }
 
 /// The name of a record.
-pub(crate) fn id_of(rt: &impl Abort, stage: &Stage, record: usize) -> RecordId {
+fn id_of(rt: &impl Abort, stage: &Stage, record: usize) -> RecordId {
     at(rt, stage.ids.as_slice(), record)
 }
 
@@ -125,7 +125,7 @@ fn run(rt: &impl Abort, stage: &mut Stage, record: usize, procedure: u64) {
 }
 
 /// Which record a field hides, if any.
-pub(crate) fn hidden(runtime: &Runtime, id: RecordId, field: usize) -> Option<RecordId> {
+fn hidden(runtime: &Runtime, id: RecordId, field: usize) -> Option<RecordId> {
     match runtime.heap().get(id)?.fields[field % FIELDS] {
         Hidden(other) => Some(other),
         _ => None,
@@ -156,7 +156,7 @@ fn look(rt: &impl Abort, stage: &Stage, step: Step) {
 }
 
 /// Carries out a step.
-pub(crate) fn carry_out(rt: &impl Abort, stage: &mut Stage, step: Step) {
+fn carry_out(rt: &impl Abort, stage: &mut Stage, step: Step) {
     match step {
         Make(slot) => {
             let id = made(rt, &mut stage.runtime, [Nothing; FIELDS]);

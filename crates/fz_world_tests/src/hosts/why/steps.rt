@@ -56,7 +56,7 @@ pub(crate) enum Told {
 #[derive(Drop)]
 pub(crate) struct Records {
     alloc: Global,
-    pub(crate) runtime: Runtime,
+    runtime: Runtime,
     ids: Vec<RecordId>,
 }
 
@@ -219,7 +219,7 @@ pub(crate) fn carry_out(rt: &impl Abort, records: &mut Records, step: Step) {
 }
 
 /// What is told of a record, and the numbers of the records on its path.
-pub(crate) fn answer_of(rt: &impl Abort, records: &Records, record: usize) -> (Told, Vec<usize>) {
+fn answer_of(rt: &impl Abort, records: &Records, record: usize) -> (Told, Vec<usize>) {
     let alloc = records.alloc;
     let id = id_of(rt, records, record);
     let reason = records.runtime.why(alloc, id).expect(rt, "memory");
@@ -240,7 +240,7 @@ pub(crate) fn answer_of(rt: &impl Abort, records: &Records, record: usize) -> (T
 }
 
 /// Checks which records wait for a ring.
-pub(crate) fn must_be_stuck(rt: &impl Abort, records: &Records, want: &[usize]) {
+fn must_be_stuck(rt: &impl Abort, records: &Records, want: &[usize]) {
     let stuck = records.runtime.stuck(records.alloc).expect(rt, "memory");
     let mut numbers = Vec::new(records.alloc);
     for address in stuck.iter() {

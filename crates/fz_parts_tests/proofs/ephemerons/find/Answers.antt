@@ -2,7 +2,7 @@ use Rattle.std.proofs.Common.{◌∙◌, ap, nat_cmp}
 use Rattle.std.proofs.lemmas.Bool.{both_ways}
 use Rattle.std.specs.FinSet.{contains, contains-empty}
 use Rattle.fz_marker.specs.Marking.{Marking}
-use Rattle.fz_parts_tests.proofs.pass.find.Goals as goal
+use Rattle.fz_parts_tests.proofs.ephemerons.find.Goals as goal
 
 pub returns-clause-closed : goal.returns-clause-closed
 returns-clause-closed c = c.finish.ensures.closed (λ a scanned clean.

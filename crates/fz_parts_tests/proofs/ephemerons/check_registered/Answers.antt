@@ -6,7 +6,7 @@ use Rattle.fz_model.specs.State.{Map}
 use Rattle.fz_model.proofs.KeyedEntries.{All-got}
 use Rattle.fz_pass.specs.Marks.{AreRegistered}
 use Rattle.fz_pass.proofs.Walking.{one_on, all_of}
-use Rattle.fz_parts_tests.proofs.pass.check_registered.Goals as goal
+use Rattle.fz_parts_tests.proofs.ephemerons.check_registered.Goals as goal
 
 pub loop-object-preserved : goal.loop-object-preserved
 loop-object-preserved c =

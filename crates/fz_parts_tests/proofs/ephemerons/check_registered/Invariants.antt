@@ -2,7 +2,7 @@
 use Rattle.std.proofs.Common.{◌≡◌, ◌++◌, ℕ, All, IsTrue}
 use Rattle.std.specs.FinMap.{contains_key}
 use Rattle.fz_model.specs.declared.answers.Registration.{Registration}
-use Rattle.fz_parts_tests.proofs.pass.check_registered.Given as goal
+use Rattle.fz_parts_tests.proofs.ephemerons.check_registered.Given as goal
 
 abbrev pub invariant-loop-object : goal.invariant-loop-object
 invariant-loop-object l = record {

@@ -5,7 +5,7 @@ use Rattle.fz_model.specs.State.{Map}
 use Rattle.fz_model.proofs.KeyedEntries.{All-got}
 use Rattle.fz_pass.specs.Marks.{AreTargets}
 use Rattle.fz_pass.proofs.Walking.{one_on, all_of}
-use Rattle.fz_parts_tests.proofs.pass.check_targets.Goals as goal
+use Rattle.fz_parts_tests.proofs.ephemerons.check_targets.Goals as goal
 
 pub loop-link-preserved : goal.loop-link-preserved
 loop-link-preserved c =

@@ -1,7 +1,7 @@
 -- The targets so far are there.
 use Rattle.std.proofs.Common.{◌≡◌, ◌++◌, ℕ, All, IsTrue}
 use Rattle.std.specs.FinMap.{contains_key}
-use Rattle.fz_parts_tests.proofs.pass.check_targets.Given as goal
+use Rattle.fz_parts_tests.proofs.ephemerons.check_targets.Given as goal
 
 abbrev pub invariant-loop-link : goal.invariant-loop-link
 invariant-loop-link l = record {
