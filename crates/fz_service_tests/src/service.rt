@@ -254,24 +254,6 @@ fn collects_for_space<O: Opening, R: Abort + Wait>(rt: &R, prepared: Prepared)
     same(rt, "passes", end.passes, 3);
 }
 
-/// A service has as many seats as it was prepared with, and ends with all of them.
-fn opens_with_seats<O: Opening>(rt: &impl Abort, prepared: Prepared, workers: u64)
-    requires { prepared ≡ O.origin }
-{
-    let (service, seats) = opened::<O>(rt, prepared);
-    same(rt, "seats", seats.len() as u64, workers);
-    let end = ended(rt, service, seats);
-    same(rt, "passes", end.passes, 0);
-}
-
-#[test]
-fn one_to_eight_seats_open(rt: HostRuntime) {
-    for workers in 1..9u64 {
-        let prepared = prepared(&rt, rt.alloc(), workers);
-        opens_with_seats::<Brand>(&rt, prepared, workers);
-    }
-}
-
 #[test]
 fn takes_need_no_lock(rt: HostRuntime) {
     let prepared = prepared(&rt, rt.alloc(), 1);

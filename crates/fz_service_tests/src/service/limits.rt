@@ -9,8 +9,8 @@ use super::{
     ended, finish_next, forfeit_next, make_and_drop, make_and_drop_with, opened, prepared,
     prepared_with, queue_entries,
 };
-use fz_model::{Entry, MAX_WORKERS, Progress, Refusal};
-use fz_service::{Gate, Locked, OpenGate, Opening, Prepared, Proc, retire_all};
+use fz_model::{Entry, MAX_WORKERS, Progress};
+use fz_service::{Gate, Locked, OpenGate, Opening, Prepared, Proc};
 use fz_world::World;
 use std::alloc::Global;
 use std::marker::Brand;
@@ -313,29 +313,4 @@ fn serves_after_idling<O: Opening + Send + Sync, R: Abort + Wait + Threads + Syn
 fn workers_serve_after_idling(rt: HostRuntime) {
     let prepared = prepared(&rt, rt.alloc(), 2);
     serves_after_idling::<Brand, HostRuntime>(&rt, prepared);
-}
-
-/// Ending a service fails without its seats, and succeeds with them.
-fn refuses_to_end_without_seats<O: Opening>(rt: &impl Abort, alloc: Global, prepared: Prepared)
-    requires { prepared ≡ O.origin }
-{
-    let (service, seats) = opened::<O>(rt, prepared);
-    match service.shutdown(Vec::new(alloc)) {
-        Ok(_) => {
-            retire_all(seats);
-            panic!(rt; "no seat was given")
-        }
-        Err((error, service, none)) => {
-            retire_all(none);
-            same(rt, "the refusal", error.refusal(), Refusal::SeatsMissing);
-            let end = ended(rt, service, seats);
-            same(rt, "passes", end.passes, 0);
-        }
-    }
-}
-
-#[test]
-fn an_end_without_seats_is_refused(rt: HostRuntime) {
-    let prepared = prepared(&rt, rt.alloc(), 2);
-    refuses_to_end_without_seats::<Brand>(&rt, rt.alloc(), prepared);
 }

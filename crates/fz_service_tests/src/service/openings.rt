@@ -1,10 +1,12 @@
 //! Openings of all sizes: with each number of frames and of workers, and numbers of blocks around each power of two.
 
-use super::opens_with_seats;
+ghost use Rattle.std.specs.Prelude.{◌≡◌};
+
 use super::wanted::same;
+use super::{ended, opened};
 use fz_model::ObjKind::Scanned;
 use fz_model::{HEAP_START, MAX_BLOCKS, MAX_FRAMES, MAX_WORKERS, Refusal};
-use fz_service::{Opening, Program, Service, with_service};
+use fz_service::{Opening, Prepared, Program, Service, with_service};
 use fz_world::Config;
 use std::alloc::Global;
 use std::marker::Brand;
@@ -15,6 +17,16 @@ use std::thread::Threads;
 
 /// The powers of two up to the largest number of blocks.
 const POWERS: [u64; 13] = [1, 2, 4, 8, 16, 32, 64, 128, 256, 512, 1_024, 2_048, 4_096];
+
+/// A service has as many seats as it was prepared with, and ends with all of them.
+fn opens_with_seats<O: Opening>(rt: &impl Abort, prepared: Prepared, workers: u64)
+    requires { prepared ≡ O.origin }
+{
+    let (service, seats) = opened::<O>(rt, prepared);
+    same(rt, "seats", seats.len() as u64, workers);
+    let end = ended(rt, service, seats);
+    same(rt, "passes", end.passes, 0);
+}
 
 /// Opens and ends a service of this size. One outside of the limits is refused, by an error that prints as its refusal.
 fn opens<R: Abort + Alloc<A = Global>>(rt: &R, config: Config, workers: u64) {

@@ -3,7 +3,7 @@
 ghost use Rattle.std.specs.Prelude.{◌≡◌, ◌<◌, ◌^◌, length};
 
 use super::wanted::{count_seats, same};
-use super::{ended, opened, prepared, prepared_with, queue_entries};
+use super::{ended, opened, prepared, queue_entries};
 use fz_model::Entry;
 use fz_service::{Gate, OpenGate, Opening, Prepared, Proc, Seat, procedures};
 use fz_world::World;
@@ -320,48 +320,5 @@ fn procedures_run_in_order(rt: HostRuntime) -> Result<(), Fail> {
     let prepared = prepared(&rt, rt.alloc(), 1);
     invokes_in_order::<Brand, HostRuntime>(&rt, prepared, procs.as_mut_slice());
     calls_each_twice(&rt, &calls, &[(0, 0), (1, 1), (1, 3), (0, 4)]);
-    Ok(())
-}
-
-/// One worker serves all entries of these procedures in one call.
-fn invokes_all<O: Opening, R: Abort + Wait>(
-    rt: &R,
-    prepared: Prepared,
-    procs: &mut [Box<dyn Proc + Send>],
-    numbers: &[u64],
-)
-    requires { prepared ≡ O.origin }
-{
-    let (service, mut seats) = opened::<O>(rt, prepared);
-    queue_entries(rt, &mut service.enter(rt), numbers);
-    count_seats(rt, seats.as_slice(), 1);
-    let count = numbers.len() as u64;
-    let (seat, served) = service.invoke_finalizers(seats.remove(0), procs, count, &OpenGate, rt);
-    same(rt, "finished in one call", served, count);
-    seats.push_reserved(seat);
-    let end = ended(rt, service, seats);
-    let counts = (end.enqueued, end.finished, end.left.len());
-    same(rt, "queued, finished and left", counts, (count, count, 0));
-}
-
-#[test]
-fn one_call_serves_hundreds(rt: HostRuntime) {
-    let prepared = prepared_with(&rt, rt.alloc(), 8, 1);
-    invokes_all::<Brand, HostRuntime>(&rt, prepared, &mut [], &[0; 300]);
-}
-
-#[test]
-fn each_of_six_procedures_runs(rt: HostRuntime) -> Result<(), Fail> {
-    let calls = Arc::new(rt.alloc(), Calls::with_room(rt.alloc(), 12)?)?;
-    let mut procs: Vec<Box<dyn Proc + Send>> = Vec::new(rt.alloc());
-    for number in 0..6u64 {
-        let calls = Arc::try_clone(&calls)?;
-        procs.push(Box::new(rt.alloc(), Recorded { number, calls })?)?;
-    }
-    let prepared = prepared(&rt, rt.alloc(), 1);
-    let numbers = [5, 4, 3, 2, 1, 0];
-    invokes_all::<Brand, HostRuntime>(&rt, prepared, procs.as_mut_slice(), &numbers);
-    let wanted = [(5, 0), (4, 1), (3, 2), (2, 3), (1, 4), (0, 5)];
-    calls_each_twice(&rt, &calls, &wanted);
     Ok(())
 }

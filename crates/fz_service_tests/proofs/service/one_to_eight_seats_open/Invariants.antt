@@ -1,4 +1,0 @@
-use Rattle.fz_service_tests.proofs.service.one_to_eight_seats_open.Given as goal
-
-abbrev pub ghosts-opens_with_seats : goal.ghosts-opens_with_seats
-ghosts-opens_with_seats g a = record { origin = a.prepared }
