@@ -60,7 +60,7 @@ fn takes<R: AllocGlobal + Abort + Threads + Wait + Sync>(
 }
 
 /// How many runs of a file there are at most.
-const RUNS: u32 = 5;
+const RUNS: u32 = 200;
 
 /// Files over one block and frames, with how often their runs take the lock: once for each call, for the pause at the end and for each collection after it;
 /// and for the worker once for up to 32 entries that a collection queued, since their procedures need no lock. The first nine files queue none.
