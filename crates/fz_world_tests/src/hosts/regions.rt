@@ -1,5 +1,5 @@
 //! Finalizers that ask about regions of objects and of words: which regions a question has, and in which order. `c/tests/graphs.c` and
-//! `c/tests/finalizers_fuzz.c` compare their passes with those that ask about each object and each word.
+//! `c/tests/finalizers_fuzz.c` compare what their passes do with plain readings.
 
 use crate::equal::must_be;
 use fz_finalizers::{Addr, Finalizer, Kind, LinkKind, Passed};
