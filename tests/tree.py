@@ -2,7 +2,7 @@
 import glob, hashlib, os, subprocess
 from kept import READ
 
-# Outside of a repository these files stand for the tree.
+# Outside of a repository these files take the place of the tree.
 SOURCES = ('crates/*/src/**/*.rt', 'tests/*')
 
 
