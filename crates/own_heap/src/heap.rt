@@ -70,7 +70,7 @@ impl Heap {
     }
 
     /// Whether the record exists.
-    pub fn stands(&self, id: RecordId) -> bool
+    pub fn contains(&self, id: RecordId) -> bool
         ensures { result ≡ is_some (slot self.now.records.slots.items id.place) }
     {
         self.get(id).is_some()
