@@ -18,7 +18,7 @@ fn collect(heap: &mut Heap, machine: &mut Machine) -> Result<Passed, Refused> {
     }
     machine.begin()?;
     let mut answers = [false; BATCH];
-    // A host that answers comes to the end long before.
+    // A host that answers reaches the end of the pass long before this bound.
     for _ in 0..u64::MAX {
         match machine.next(&answers)? {
             Next::Asks(question) => answers = heap.answers(&question),
