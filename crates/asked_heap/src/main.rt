@@ -11,7 +11,7 @@ use fz_machine::{BATCH, Machine, Next, Refused};
 /// Marks, makes a pass, and reclaims what isn't marked.
 fn collect(heap: &mut Heap, machine: &mut Machine) -> Result<Passed, Refused> {
     heap.mark_roots();
-    for sort in [Root::HeldObject, Root::HeldData].iter() {
+    for sort in [Root::HeldObject, Root::HeldData, Root::RegisteredData].iter() {
         for object in machine.finalizers().roots(*sort) {
             heap.mark(object);
         }
