@@ -49,7 +49,7 @@ fn main(rt: HostRuntime) -> Result<()> {
     heap.set(1, 2);
     machine.register(1, finalizer(10))?;
     machine.register(2, finalizer(20))?;
-    machine.link(LinkKind::Long, heap.weak_word(2), 2)?;
+    machine.link(LinkKind::Long, heap.set_weak(2), 2)?;
     for round in 0..4 {
         if round == 1 {
             heap.set_root(0);
