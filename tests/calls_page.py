@@ -5,7 +5,8 @@ import glob, re, textwrap
 PAGE = 'docs/reference/CALLS.md'
 # The types whose calls are listed, each with its crate.
 TYPES = [('World', 'fz_world'), ('Service', 'fz_service'), ('Locked', 'fz_service'), ('Seat', 'fz_service'), ('Duty', 'fz_service'), ('Proc', 'fz_service'),
-         ('Gate', 'fz_service'), ('Program', 'fz_service'), ('Finalizers', 'fz_finalizers'), ('Host', 'fz_pass'), ('Values', 'fz_pass'), ('Paths', 'fz_why'), ('Machine', 'fz_machine')]
+         ('Gate', 'fz_service'), ('Program', 'fz_service'), ('Finalizers', 'fz_finalizers'), ('Roots', 'fz_finalizers'), ('Host', 'fz_pass'),
+         ('Values', 'fz_pass'), ('Paths', 'fz_why'), ('Snapshot', 'fz_why'), ('Machine', 'fz_machine')]
 # The crates whose functions are listed, in addition to the calls of types.
 FUNCTIONS = ['fz_service', 'fz_why']
 # The files that declare the result types, except those of a crate itself.
@@ -24,7 +25,8 @@ An index of the public calls of the libraries for programs: what each does, when
 source. `tests/documents --write` writes this page from the sources, and the gate compares the two.
 
 - A signature leaves out `self`, except that of a method that a program implements.
-- Errors are listed in the order in which they are tested. A call that returns an error has no effect, except that `alloc_or_collect` may have collected.
+- Errors are listed in the order in which they are tested. A call that returns an error has no effect, except that `alloc_or_collect` may have collected, and
+  that a call of `Finalizers` or `Machine` may have reserved room, or moved entries in memory, which ends a walk over roots.
 - Unless stated otherwise a call takes O(log n) time, amortized over the growth of tables.
 - `Addr` and `Word` are `u64`. The [last part](#answers) has the fields of what calls take and return.
 - The calls for C are in the headers `derrimas_finalizers.h`, `derrimas_workers.h` and `derrimas.h`, and in the manual pages that `c/install` installs.

@@ -1,5 +1,5 @@
 /* Preloaded before the C library. When the program ends, it is written to the descriptor in COUNTED for how many bytes it asked, and how many of its
- * allocations it never freed. What the C library itself makes by calloc for threads, and keeps, isn't counted: before each counted allocation stands a
+ * allocations it never freed. What the C library itself makes by calloc for threads, and keeps, isn't counted: each counted allocation begins with a
  * mark. Several threads may ask at the same time. */
 #define _GNU_SOURCE
 #include <stdint.h>
@@ -12,7 +12,7 @@ void *__libc_malloc(size_t), *__libc_realloc(void *, size_t);
 void __libc_free(void *);
 
 static const uint64_t MARK = 0x9e3779b97f4a7c15;
-/* It keeps what stands behind the mark aligned. */
+/* It keeps what comes after the mark aligned. */
 enum { BEFORE = 16 };
 static long asked, kept;
 

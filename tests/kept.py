@@ -1,16 +1,17 @@
 """What passed or was built on this machine, so that it is run or built again only if something that it reads has changed.
 
-A run of a tool happens in a room of its own: a folder with copies of the files of the tree that the tool is declared to read, and of no others. So it can't
-read a file that isn't declared. A run that passed is kept under a sum: the SHA-256 of the tool's arguments; of these files, including the tool itself, the
-modules that it imports, and the programs and scripts that its arguments name; of what it reads outside of the tree; and of the machine: the versions of all
-packages, the files of all commands, the toolchain, Python and the kernel. A run that failed, or that skipped something, isn't kept.
+A run of a tool happens in a room of its own: a folder with copies of the files of the tree that the tool is declared to read, and of no others. So it finds no
+other file of the tree, unless it names that by an absolute path. A run that passed is kept under a sum: the SHA-256 of the tool's arguments; of these files,
+including the tool itself, the modules that it imports, and the programs and scripts that its arguments name; of what it reads outside of the tree; and of the
+machine: the versions of all packages, the files of all commands, the toolchain, Python and the kernel. A run that failed, or that skipped something, isn't
+kept.
 
 tests/prove, tests/c-library and tests/unproved.py keep proofs, archives and programs in the same way, under sums of their own.
 
 Entries are stored below ~/.cache/derrimas (XDG_CACHE_HOME). Each has a folder with its record and its files. A record has the sum of each file, and a code made
 with a secret of this user on this machine. So an entry that is damaged, has another name, or was copied from elsewhere isn't accepted. Anyone who can read the
-secret can make one: the folder belongs to this user alone, and nothing is kept in one that doesn't."""
-import contextlib, functools, glob, hashlib, hmac, json, os, platform, re, shutil, stat, subprocess, sys, tempfile
+secret can make an entry. So only this user may read the folder, and nothing is kept if the folder belongs to another user."""
+import contextlib, functools, glob, hashlib, hmac, json, os, platform, re, shutil, stat, subprocess, sys, tempfile, time
 
 # What tests/prove leaves in the folder `out` of a library for C: the checked crate, from which tests/c-library compiles it.
 CHECKED = 'checked'
@@ -94,7 +95,7 @@ def imports_of(tool):
     while waiting:
         with open(waiting.pop(), encoding='utf-8', errors='replace') as file:
             text = file.read()
-        for line in re.findall(r'^(?:from|import) +(\w+(?:, *\w+)*)', text, re.M):
+        for line in re.findall(r'^ *(?:from|import) +(\w+(?:, *\w+)*)', text, re.M):
             new = [f'tests/{it}.py' for it in re.split(', *', line) if os.path.isfile(f'tests/{it}.py') and f'tests/{it}.py' not in found]
             found, waiting = found + new, waiting + new
     return found
@@ -203,3 +204,7 @@ class Store:
             old = [it.path for it in os.scandir(self.at) if not it.name.startswith('new-')]
             for it in sorted(old, key=os.path.getmtime)[:-self.most]:
                 shutil.rmtree(it, ignore_errors=True)
+            # what runs that were killed have left
+            for it in glob.glob(f'{glob.escape(self.at)}/new-*'):
+                if os.path.getmtime(it) < time.time() - 24 * 3600:
+                    shutil.rmtree(it, ignore_errors=True)

@@ -1,5 +1,5 @@
-/* Preloaded before the C library. The allocations whose numbers stand in REFUSED fail, counted from 1, as in 7,9-12; so do the starts of threads whose
- * numbers stand in THREADLESS. When the program ends, it is written to the descriptor in COUNTED how many allocations it asked for, how many of those it
+/* Preloaded before the C library. The allocations whose numbers are listed in REFUSED fail, counted from 1, as in 7,9-12; so do the starts of threads whose
+ * numbers are listed in THREADLESS. When the program ends, it is written to the descriptor in COUNTED how many allocations it asked for, how many of those it
  * never freed, how many threads it asked for, and how many allocations failed. Memory is asked for by malloc, realloc, calloc, aligned_alloc,
  * posix_memalign and mmap. What the C library itself makes for a thread, and keeps, isn't counted. */
 #define _GNU_SOURCE

@@ -185,8 +185,8 @@ typedef struct derrimas_linked {
     uint64_t place, target;
 } derrimas_linked;
 
-/* Counts of a world's life: passes; objects reclaimed; entries ever queued, taken by derrimas_take or passed over by
- * it, and not finished yet; and of the cycle begun last, the objects it has scanned and the dirty pages. */
+/* Counts of a world's life: passes; objects reclaimed; entries ever queued; entries that derrimas_take took or passed
+ * over; and entries that aren't finished yet. Then, of the cycle begun last, the objects scanned and the dirty pages. */
 typedef struct derrimas_counts {
     uint64_t passes, reclaimed, queued, taken, outstanding, scans, noted;
 } derrimas_counts;
@@ -496,7 +496,7 @@ void derrimas_seat_destroy(derrimas_seat *seat) DERRIMAS_NONNULL(1);
 
 /* ---- what a world shows; these calls change nothing
  *
- * A walk asks for the first at 0 or after it, then for the first after the one that came:
+ * A walk asks for the first item at 0 or after it, and then each time for the first item after the one returned:
  *
  *     derrimas_object object;
  *     for (uint64_t from = 0; derrimas_next_object(&world, from, &object) == DERRIMAS_OK; from = object.start + 1)
@@ -559,11 +559,12 @@ uint64_t derrimas_invoke_finalizers(derrimas_world *world, const derrimas_proc *
 
 /* For a runtime's exit: GC_finalize_all. Takes and runs the entries that wait, as derrimas_invoke_finalizers does. Then
  * it unregisters each object that is registered when these have run, what they registered themselves included, by rank,
- * then address, and calls its procedure with an entry whose seq is UINT64_MAX and whose pass is 0: it is no entry of
- * the queue, can't be finished, and nothing was found unreachable. So objects on rings come too, and objects that are
- * in use. While its procedure runs an object is retained by the slot, which is 0 afterwards. What these procedures
- * register stays registered, unless a collection of theirs finds it: what is queued meanwhile runs at the end. It is no
- * pass: no link is cleared. *ran, which may be NULL, is how many entries and registrations were processed.
+ * then address, and calls its procedure. The procedure gets an entry whose seq is UINT64_MAX and whose pass is 0: it is
+ * no entry of the queue and can't be finished, and nothing was found unreachable. So objects on rings are finalized too,
+ * and objects that are in use. While its procedure runs an object is retained by the slot, which is 0 afterwards. What
+ * these procedures register stays registered, unless a collection that they make queues it: what is queued meanwhile
+ * runs at the end. It is no pass: no link is cleared. *ran, which may be NULL, is how many entries and registrations
+ * were processed.
  * Refused: DERRIMAS_NO_WORLD, DERRIMAS_BAD_SLOT; nothing ran then. */
 derrimas_code derrimas_finalize_all(derrimas_world *world, derrimas_slot slot, const derrimas_proc *procs, size_t count,
                                     void *data, uint64_t *ran) DERRIMAS_NONNULL(1);

@@ -58,9 +58,11 @@ typedef enum derrimas_link_answer {
 
 /* ---- memory */
 
-/* An allocator of the host's: functions like malloc, realloc and free, each with `data` before its arguments. They are
- * called by the thread whose call takes or frees memory, within that call. They must return, and must not make a call on the
- * same handle. `reallocate` and `release` get what `allocate` or `reallocate` returned for this handle, or NULL. */
+/* An allocator of the host's: functions like malloc, realloc and free, each with `data` before its arguments. A size is in
+ * bytes. Memory has to be aligned to 16 bytes. NULL means out of memory; a block that `reallocate` can't resize stays as it
+ * was. The functions are called by the thread whose call takes or frees memory, within that call. They must return, and must
+ * not make a call on the same handle: so `allocate` can't run a collection with a pass of that handle. `reallocate` and
+ * `release` get what `allocate` or `reallocate` returned for this handle, or NULL. */
 typedef struct derrimas_allocator {
     void *(*allocate)(void *data, size_t size);
     void *(*reallocate)(void *data, void *memory, size_t size);

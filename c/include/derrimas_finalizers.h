@@ -5,17 +5,29 @@
  * and the entries of finalizers and cleanups that are ready. Objects, words, procedures and client data are numbers of 64 bits,
  * which are compared and returned, and never dereferenced. An object is any number but 0 by which the host finds it: its
  * address, an address that is hidden by a map that keeps the order, or an index. What is proved of a pass assumes that an
- * object with n words takes the n numbers from its own on, and that no two objects share one. The word of a link or of an
- * ephemeron is any number but 0 by which the host finds it: its address, or an object's number with an offset. Each word has
- * one number. A host whose marker scans the stack for what looks like an address hides all of these by the same map, since
- * questions and entries are on the stack.
+ * object with the number a and n words has the numbers from a to a + n - 1 to itself. Addresses meet this. The word of a link
+ * or of an ephemeron is any number but 0 by which the host finds it: its address, or an object's number with an offset. Each
+ * word has one number, which may also be that of an object. A host whose marker scans the stack for what looks like an
+ * address hides all of these by the same map, since questions and entries are on the stack.
  *
  * The host has the heap. It marks what its roots reach, and what derrimas_finalizers_roots yields. Then it makes a pass,
  * in which it is asked questions: is this object marked, mark what it reaches, write zero to this word. What isn't marked
  * at the end of the pass may be reclaimed. The host marks through the word of an ephemeron only when it is asked to.
+ * docs/HOSTS.md of the repository has a whole host. This is its collection, without client data that are objects:
  *
- * A call that can be refused returns a derrimas_finalizers_code. A refused call changes nothing, and leaves the places for
- * its results as they were. If several causes apply, it returns the first in the order of the call's comment.
+ *     mark_from_roots(heap);
+ *     while (!derrimas_finalizers_roots(&finalizers, DERRIMAS_FINALIZERS_HELD_OBJECTS, &from, some, 64, &count))
+ *         for (n = 0; n < count; n++)
+ *             mark(heap, some[n]);
+ *     if (derrimas_finalizers_pass(&finalizers, &host, heap, NULL))
+ *         abort();
+ *     sweep(heap);
+ *
+ * A call that can fail returns a derrimas_finalizers_code. "Refused:" in its comment lists the codes with which it fails; if
+ * several apply, it returns the first of them. EMPTY is listed there too, but is no failure: nothing is left to take or to
+ * copy, or a pass has ended. A call that fails changes no registration, link, ephemeron, cleanup, entry or open pass, and
+ * leaves the places for its results as they were. It may have allocated memory for later calls, and unless its handle is
+ * const, it ends a walk over roots.
  *
  * What the host owes, which the library doesn't check:
  * - A pointer points to a value of its type, which no other thread uses meanwhile. It may be NULL only where the call's
@@ -28,12 +40,13 @@
  *   if no other thread was in a call on it at the fork, for example if the fork happens under the host's lock.
  * - Before the host frees, reuses or moves the memory of the word of a link or an ephemeron, it unlinks or moves the link,
  *   or ends or moves the ephemeron. A word whose number stays when its memory moves needs no call. A pass has the host write
- *   to the word of each one that it clears, even if no object has the word. A pass that ends has removed those whose words
- *   lie in objects that it left unmarked: these may be freed without further calls.
+ *   to the word of each one that it clears, even if no object has the word. When a pass has ended, it has removed the links
+ *   and ephemerons whose words lie in objects that it left unmarked: these words may be freed without further calls.
  * - Before the host reclaims an object at any other time than after a pass that left it unmarked, it removes the object's
- *   registration, the links to it, the ephemerons whose key it is and its cleanups: a pass asks whether the object is
- *   marked, and a new object of the same number would inherit them. A pass that ends leaves none of these of an object that
- *   it left unmarked. Only one by .._begin_from may leave registrations and cleanups, those with numbers lower than `from`.
+ *   registration, the links to it, the ephemerons whose key it is and its cleanups. A pass asks whether the object is
+ *   marked, and a new object of the same number would inherit them. When a pass has ended, an object that it left unmarked
+ *   has none of these any more. Only after a pass by .._begin_from may it still have a registration or cleanups, those with
+ *   numbers lower than `from`.
  *
  * Only derrimas_finalizers_open, .._reserve, .._shrink, .._register, .._link, .._ephemeron, .._add_cleanup, .._why, .._stuck
  * and, with the option `live`, .._move_link allocate, by the handle's allocator; only these and .._destroy free. All other
@@ -53,7 +66,8 @@
  *
  * Unless a comment says otherwise a call takes constant time: .._register, .._link, .._ephemeron and .._add_cleanup
  * amortized over the growth of tables, .._move_link over as many moves as there are links of its kind, .._move_ephemeron
- * over as many as there are ephemerons. */
+ * over as many as there are ephemerons. A single call that enlarges a table takes time proportional to the table. .._reserve
+ * enlarges the tables of registrations and links beforehand. */
 #ifndef DERRIMAS_FINALIZERS_H
 #define DERRIMAS_FINALIZERS_H
 
@@ -65,7 +79,8 @@ extern "C" {
 
 /* ---- codes and kinds */
 
-/* What a call returns. The comments are what derrimas_finalizers_strerror returns. */
+/* What a call returns. The comments are what derrimas_finalizers_strerror returns. Only calls of derrimas_workers.h return
+ * BAD_COUNT, NO_THREAD, IN_PROCEDURE and PENDING, and only .._why and .._stuck return OVERLAP. */
 typedef enum derrimas_finalizers_code {
     DERRIMAS_FINALIZERS_OK = 0,           /* the call was accepted */
     DERRIMAS_FINALIZERS_ZERO = 1,         /* the object or the word is 0 */
@@ -89,13 +104,14 @@ typedef enum derrimas_finalizers_code {
 } derrimas_finalizers_code;
 
 /* When the finalizer of an unreachable object is ready: GC_register_finalizer, .._ignore_self, .._no_order, and
- * .._unreachable. No pass queues an object that reaches itself: by any path, of kind NORMAL or UNREACHABLE; by a path
- * through another object, of kind IGNORE_SELF. */
+ * .._unreachable. No pass queues an object of kind NORMAL or UNREACHABLE that reaches itself by any path, or an object of
+ * kind IGNORE_SELF that reaches itself through another object. */
 typedef enum derrimas_finalizers_kind {
-    DERRIMAS_FINALIZERS_NORMAL = 0,      /* no unreachable registered object reaches it, not even itself */
+    DERRIMAS_FINALIZERS_NORMAL = 0,      /* no unreachable registered object reaches it, not even itself; one of kind
+                                          * NO_ORDER doesn't count */
     DERRIMAS_FINALIZERS_IGNORE_SELF = 1, /* the same, but words of the object that point to itself don't count */
     DERRIMAS_FINALIZERS_NO_ORDER = 2,    /* the object's own references don't count; others that reach it come first */
-    DERRIMAS_FINALIZERS_UNREACHABLE = 3  /* as NORMAL, but the references of NO_ORDER objects count too */
+    DERRIMAS_FINALIZERS_UNREACHABLE = 3  /* as NORMAL, but those of kind NO_ORDER count too */
 } derrimas_finalizers_kind;
 
 /* The kinds of links and the answers about them, which are those of derrimas_common.h, under names of this header. An
@@ -211,8 +227,8 @@ typedef enum derrimas_ask {
     DERRIMAS_ASK_MARK_CHILDREN = 2,    /* mark the objects to which its words point, and all that those reach; an earlier
                                         * object of such a question may have marked the object itself */
     DERRIMAS_ASK_MARK_OTHERS = 3,      /* the same, but without the words that point to the object itself */
-    DERRIMAS_ASK_MARK = 4,             /* mark the object and all that it reaches; its entry is queued once the objects of all
-                                        * entries are marked */
+    DERRIMAS_ASK_MARK = 4,             /* mark the object, which may be marked already, and all that it reaches; its entry is
+                                        * queued once the objects of all entries are marked */
     DERRIMAS_ASK_MARK_ALONE = 5,       /* mark the object; all else that it reaches is marked already; its entry is queued
                                         * likewise, or at once if it is of kind UNREACHABLE. A host that copies marked objects
                                         * also updates the words of the copy */
@@ -259,14 +275,14 @@ DERRIMAS_CHECKED derrimas_finalizers_code derrimas_finalizers_open(derrimas_fina
                                                                    const derrimas_finalizers_options *options)
     DERRIMAS_NONNULL(1);
 
-/* Frees all that the handle has, by its allocator, and leaves it as {0}. A pass may be open. Does nothing if the handle isn't
- * open. */
+/* Frees all that the handle has, by its allocator, and leaves it as {0}. No procedure runs: entries that wait or are held are
+ * lost. A pass may be open. Does nothing if the handle isn't open. */
 void derrimas_finalizers_destroy(derrimas_finalizers *finalizers) DERRIMAS_NONNULL(1);
 
 /* Makes room for the given numbers of further registrations and links. Until that room is used up, or .._shrink is called,
  * .._register and .._link take no memory, except for new regions. .._ephemeron, .._add_cleanup, .._why and .._stuck take
- * memory nevertheless. It takes memory itself, and time proportional to the room. For 2^32 or more of one sort it returns
- * NO_MEMORY without asking the allocator.
+ * memory nevertheless. It takes memory itself, and time proportional to the room. For 2^32 or more of one sort it fails
+ * with NO_MEMORY. If it fails, it may have made some of the room, which .._shrink frees.
  * Refused: NOT_OPEN, PASS_OPEN, NO_MEMORY. */
 DERRIMAS_CHECKED derrimas_finalizers_code derrimas_finalizers_reserve(derrimas_finalizers *finalizers,
                                                                       uint64_t registrations, uint64_t shorts, uint64_t longs)
@@ -300,12 +316,14 @@ derrimas_finalizers_register(derrimas_finalizers *finalizers, uint64_t object, d
 derrimas_finalizers_code derrimas_finalizers_unregister(derrimas_finalizers *finalizers, uint64_t object,
                                                         derrimas_finalizers_old *old) DERRIMAS_NONNULL(1);
 
-/* Makes a link from the word to the target. The word itself is the host's: no call reads or writes it. A word may have one
- * link of each kind. If the word has one of this kind, its target is replaced. *answer, which may be NULL, is DUPLICATE then,
- * and otherwise LINKED. When the target is lost, a pass asks the host to clear the word, and removes the link. The target of
- * a SHORT link is lost if it is unmarked when the pass begins, once the values of ephemerons have been marked; the target of
- * a LONG link if in addition no finalizer retains it. If the object that has the word is left unmarked, the pass removes the
- * link and leaves the word as it is.
+/* Makes a link from the word to the target. No call reads or writes the word: the host stores the pointer there. A link
+ * doesn't make the word weak: if the marker scans the word, it retains the target like any other. A host that stores
+ * another pointer there makes the link again with the new target, or removes it; otherwise a pass clears the new pointer
+ * when the old target is lost. A word may have one link of each kind. If the word has one of this kind, its target is
+ * replaced. *answer, which may be NULL, is DUPLICATE then, and otherwise LINKED. When the target is lost, a pass asks the
+ * host to clear the word, and removes the link. The target of a SHORT link is lost if it is unmarked when the pass begins,
+ * once the values of ephemerons have been marked; the target of a LONG link if in addition no finalizer retains it. If the
+ * object that has the word is left unmarked, the pass removes the link and leaves the word as it is.
  * Refused: BAD_KIND, NOT_OPEN, PASS_OPEN, ZERO, FULL, NO_MEMORY. */
 DERRIMAS_CHECKED derrimas_finalizers_code
 derrimas_finalizers_link(derrimas_finalizers *finalizers, derrimas_finalizers_link_kind kind, uint64_t word, uint64_t target,
@@ -391,7 +409,7 @@ derrimas_finalizers_code derrimas_finalizers_begin(derrimas_finalizers *finalize
 
 /* Opens a pass that looks only at registrations and cleanups whose numbers are at least `from`, for a young collection of a
  * host with generations. If the objects of all others are marked, it is the same pass as one that .._begin opens. So `from`
- * is a number that .._next_number returned before any object was registered, or got a cleanup, that may be unmarked now. If
+ * is a number that .._next_number returned before any object that may be unmarked now was registered or got a cleanup. If
  * an object with a lower number isn't marked, the pass doesn't ask about it, and its registration or cleanup stays; a
  * question about a region asks about all its places. Links and ephemerons are treated as in any pass. The tables of
  * registrations and cleanups are walked over as in any pass.
@@ -420,7 +438,7 @@ derrimas_finalizers_code derrimas_finalizers_next(derrimas_finalizers *finalizer
     DERRIMAS_NONNULL(1, 3);
 
 /* Reports that the host has marked this object while it carries out a question MARK_VALUE. The pass then asks about the
- * ephemerons of which the object is the key before all others that wait. A host may make this call for each object that it
+ * ephemerons with this key before it asks about the others that wait. A host may make this call for each object that it
  * marks then and that wasn't marked before. With it a chain of n ephemerons takes time proportional to n times its
  * logarithm. The result of the pass doesn't depend on it: if an object is left out, reported twice, not marked or no key,
  * only the time changes. At any other moment the call does nothing. It takes no memory, and time logarithmic in the
@@ -463,7 +481,7 @@ derrimas_finalizers_code derrimas_finalizers_take(derrimas_finalizers *finalizer
 derrimas_finalizers_code derrimas_finalizers_take_finished(derrimas_finalizers *finalizers, derrimas_finalizers_entry *entry)
     DERRIMAS_NONNULL(1, 2);
 
-/* Finishes an entry, which isn't held any more: its object and its client data are no roots.
+/* Finishes an entry. It is no longer held: its object and its client data are no longer roots.
  * Refused: NOT_OPEN, NOT_HELD. */
 derrimas_finalizers_code derrimas_finalizers_finish(derrimas_finalizers *finalizers, const derrimas_finalizers_entry *entry)
     DERRIMAS_NONNULL(1, 2);
@@ -515,7 +533,7 @@ derrimas_finalizers_code derrimas_finalizers_target(const derrimas_finalizers *f
     DERRIMAS_NONNULL(1, 4);
 
 /* The kind and the key of the word's ephemeron; `kind` may be NULL.
- * Refused: NOT_OPEN; EMPTY if the word is none. */
+ * Refused: NOT_OPEN; EMPTY if the word is no ephemeron. */
 derrimas_finalizers_code derrimas_finalizers_key(const derrimas_finalizers *finalizers, uint64_t word,
                                                  derrimas_finalizers_link_kind *kind, uint64_t *key) DERRIMAS_NONNULL(1, 4);
 
@@ -552,12 +570,15 @@ derrimas_finalizers_code derrimas_finalizers_cleanups(const derrimas_finalizers 
 
 /* ---- why an object isn't finalized */
 
-/* Why an object isn't finalized, or that it is ready. Each object of a path is one to which a word of the object before
- * points, or the value of an ephemeron: then the object before is the key, or the object that has the word, and the other
- * of these two is retained by the same roots, or waits for the same objects. First steps are those that kinds count: of
- * IGNORE_SELF no word that points to the object itself, and of NO_ORDER none; towards an object of kind UNREACHABLE all
- * steps of objects of other kinds count. Words and ephemerons count as they are once a pass has cleared those of short
- * links and short ephemerons whose targets and keys aren't found. */
+/* Why an object isn't finalized, or that it is ready. A path is a list of objects. There are two ways from one object to the
+ * next: a word of the object points to it; or it is the value of an ephemeron, and the object is the key, or has the
+ * ephemeron's word. Of the ephemeron's key and the object that has its word, the other one is retained too: by the same roots,
+ * or by objects that have to be finalized first.
+ *
+ * The paths of WAITS and RING begin with a first step, which has to count for the kind of its object: of IGNORE_SELF no word
+ * that points to the object itself counts, and of NO_ORDER no word. But towards an object of kind UNREACHABLE all words of
+ * objects of other kinds count. The word of a short link whose target is unreachable counts as 0, and a short ephemeron whose
+ * key is unreachable counts as removed, since a pass clears these before it decides. */
 typedef enum derrimas_why_reason {
     DERRIMAS_WHY_UNREGISTERED = 0, /* it has no finalizer and no entry, and if it has cleanups, it is unreachable */
     DERRIMAS_WHY_QUEUED = 1,       /* its entry waits or is held */
@@ -570,7 +591,7 @@ typedef enum derrimas_why_reason {
     DERRIMAS_WHY_READY = 5         /* the next pass queues it, if nothing changes before */
 } derrimas_why_reason;
 
-/* What a root is, and which of its kind `number` says. */
+/* The kind of a root; `number` says which root of this kind it is. */
 typedef enum derrimas_why_root {
     DERRIMAS_WHY_HOST_ROOT = 0,       /* a root of the host's, by the number that derrimas_paths.root was given */
     DERRIMAS_WHY_REGISTERED_DATA = 1, /* the client data of the registration with this number */
@@ -593,10 +614,11 @@ typedef struct derrimas_why {
  * `data` first; n counts from 0 on until they return false. They must return, and must not make a call that changes the
  * handle. The places for their results are 0 before each call.
  * - child: the n-th word of an object that may point to another. *child is the object to which it points, or 0. *word is
- *   the word's number, by which .._link or .._ephemeron makes a link or an ephemeron of it, or 0 if it is never one's. The
- *   words of ephemerons are listed, too: the library knows which they are, and takes it that the host doesn't mark by them.
- *   In an object that the marker doesn't scan, *child is 0 for each word that is no ephemeron. An object with n words takes
- *   the n numbers from its own on, and at least one, and no two objects share one. No object takes 2^64 - 1.
+ *   the number by which .._link or .._ephemeron names the word, or 0 if the word is never that of a link or an ephemeron.
+ *   The words of ephemerons are listed, too: the library knows which they are, and assumes that the host doesn't mark
+ *   through them. In an object that the marker doesn't scan, *child is 0 for each word that is no ephemeron. An object
+ *   with n words takes the n numbers from its own on, and at least one, and no two objects share one. No object takes
+ *   2^64 - 1.
  * - root: *root is the object to which the n-th root of the host's points, or 0. The finalizers' own are known.
  * - is_object: whether client data is the number of an object. It may be NULL, which is the same as false. An object that is
  *   client data is reachable by it, as for a host that marks what all three sorts of derrimas_finalizers_roots yield. Client
@@ -608,13 +630,13 @@ typedef struct derrimas_paths {
 } derrimas_paths;
 
 /* Says in *why why an object isn't finalized. The buffer `path`, which has `room` places and may be NULL if `room` is 0,
- * gets the first objects of the path that is the evidence, as many as fit. The object may be any number but 0; registered
+ * gets the first objects of the path that is the evidence, as many as fit. The object may be any number but 0. Registered
  * objects, the targets of short links and the keys of short ephemerons are the host's objects. It changes nothing. By the
  * handle's allocator it takes memory for each word of the objects that roots, registered objects, short links and short
  * ephemerons reach, values included, and frees it again. It takes time proportional to these words, registrations and
  * links, and looks at the ephemerons in rounds, as a pass does. An ephemeron whose word `child` doesn't list, as one that
  * lies in no object, is taken to have no value.
- * Refused: NOT_OPEN, PASS_OPEN; OVERLAP, NO_MEMORY, whichever comes first. */
+ * Refused: NOT_OPEN, PASS_OPEN, ZERO; OVERLAP, NO_MEMORY, whichever comes first. */
 DERRIMAS_CHECKED derrimas_finalizers_code derrimas_finalizers_why(derrimas_finalizers *finalizers, uint64_t object,
                                                                   const derrimas_paths *paths, void *data, derrimas_why *why,
                                                                   uint64_t *path, size_t room) DERRIMAS_NONNULL(1, 3, 5);
@@ -658,10 +680,12 @@ const char *derrimas_finalizers_reason_name(derrimas_why_reason reason);
 
 /* ---- a host's procedures, and a pass that they drive */
 
-/* A host: its functions for the questions. `data` is what derrimas_finalizers_pass was given. With but_itself, mark_children
- * skips the words that point to the object itself. marks and live return the word of the region that begins at `first`;
- * each may be NULL if the handle was opened without the option of its name. mark_value returns whether it may have marked
- * anything new; it may be NULL if there are no ephemerons.
+/* A host: its functions for the questions. `data` is what derrimas_finalizers_pass was given. A pass calls the first six
+ * functions without a test: so one of these may be NULL only if no pass asks its question. clear and holder_is_marked are
+ * called only if there are links or ephemerons. With but_itself, mark_children skips the words that point to the object
+ * itself. marks and live return the word of the region that begins at `first`; each may be NULL if the handle was opened
+ * without the option of its name. mark_value returns whether it may have marked anything new; it may be NULL if there are no
+ * ephemerons. If one of these three is missing and needed, derrimas_finalizers_pass fails with BAD_OPTIONS.
  *
  * What is promised of a pass holds if there are a graph and a set of marked objects such that:
  * - is_marked says whether the object is in the set, and so does each bit of marks, about the object that begins at its

@@ -241,6 +241,8 @@ static code by_copy(walk *it, const question *asked)
     derrimas_finalizers_old unwanted;
     code answered = (code)fz_machine_unregister(finalizers, 0, &unwanted); /* 0 is no object: changes nothing, fails if the handle isn't open or a pass is */
 
+    if (answered == DERRIMAS_FINALIZERS_OK && asked->why && !asked->object)
+        answered = DERRIMAS_FINALIZERS_ZERO;
     if (answered == DERRIMAS_FINALIZERS_OK)
         answered = BY_ALLOCATOR(it, fz_snapshot_open(&it->copy));
     if (answered != DERRIMAS_FINALIZERS_OK)

@@ -544,11 +544,13 @@ static void refusals(void)
     REFUSED(DERRIMAS_FINALIZERS_OVERLAP, answer, derrimas_finalizers_why(&it.finalizers, number(1), &longer, &it, &answer, NULL, 0));
     REFUSED(DERRIMAS_FINALIZERS_OVERLAP, answer, derrimas_finalizers_why(&it.finalizers, number(1), &within, &it, &answer, NULL, 0));
     REFUSED(DERRIMAS_FINALIZERS_OVERLAP, waiting_count, derrimas_finalizers_stuck(&it.finalizers, &longer, &it, NULL, 0, &waiting_count));
+    REFUSED(DERRIMAS_FINALIZERS_ZERO, answer, derrimas_finalizers_why(&it.finalizers, 0, &longer, &it, &answer, NULL, 0));
     it.words[0] = 0;
     OK(derrimas_finalizers_unregister(&it.finalizers, number(1), NULL));
     WHY(&it, 2, DERRIMAS_WHY_READY, );
     OK(derrimas_finalizers_begin(&it.finalizers));
     REFUSED(DERRIMAS_FINALIZERS_PASS_OPEN, answer, ask(&it, 2));
+    REFUSED(DERRIMAS_FINALIZERS_PASS_OPEN, answer, derrimas_finalizers_why(&it.finalizers, 0, &paths, &it, &answer, NULL, 0));
     REFUSED(DERRIMAS_FINALIZERS_PASS_OPEN, waiting_count, ask_stuck(&it));
     OK(derrimas_finalizers_abandon(&it.finalizers));
     IS(derrimas_finalizers_next(&it.finalizers, 0, &question, NULL), DERRIMAS_FINALIZERS_NO_PASS);

@@ -47,7 +47,7 @@ impl Heap {
     }
 
     /// Stores a number in the weak word, and returns the number of that word.
-    pub(crate) fn weak_word(&mut self, word: u64) -> u64 {
+    pub(crate) fn set_weak(&mut self, word: u64) -> u64 {
         self.weak = word;
         WEAK
     }

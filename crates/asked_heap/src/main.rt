@@ -11,14 +11,14 @@ use fz_machine::{BATCH, Machine, Next, Refused};
 /// Marks, makes a pass, and reclaims what isn't marked.
 fn collect(heap: &mut Heap, machine: &mut Machine) -> Result<Passed, Refused> {
     heap.mark_roots();
-    for sort in [Root::HeldObject, Root::HeldData].iter() {
+    for sort in [Root::HeldObject, Root::HeldData, Root::RegisteredData].iter() {
         for object in machine.finalizers().roots(*sort) {
             heap.mark(object);
         }
     }
     machine.begin()?;
     let mut answers = [false; BATCH];
-    // A host that answers comes to the end long before.
+    // A host that answers reaches the end of the pass long before this bound.
     for _ in 0..u64::MAX {
         match machine.next(&answers)? {
             Next::Asks(question) => answers = heap.answers(&question),
@@ -49,7 +49,7 @@ fn main(rt: HostRuntime) -> Result<()> {
     heap.set(1, 2);
     machine.register(1, finalizer(10))?;
     machine.register(2, finalizer(20))?;
-    machine.link(LinkKind::Long, heap.weak_word(2), 2)?;
+    machine.link(LinkKind::Long, heap.set_weak(2), 2)?;
     for round in 0..4 {
         if round == 1 {
             heap.set_root(0);

@@ -50,6 +50,7 @@ fn open_file<O: Opening, R: Files<File = File> + Print + Wait>(
 ) -> Result<()> {
     let opened = fs::open(rt, name).context(format_args!("opening {name}"))?;
     let file = files.lock(rt).insert(opened)?;
+    // If this fails, the file may have no finalizer. Here the program then ends, which closes it; one that goes on has to take it from `files` itself.
     service
         .enter(rt)
         .with_world(|world| owners::make_owner(world, file))?;

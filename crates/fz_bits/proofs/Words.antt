@@ -161,7 +161,7 @@ word_cleared first words word n within =
         ap (λ w. has_bit w (p % 64)) (get_or-set_other words word (p / 64) 0 0 ne)
         ∙ sym (ap (λ t. has_flag words p && not t) (ne_eqb (p / 64) word ne) ∙ all (has_flag words p))
 
--- ---- what stands in the set has a bit, and the other way round
+-- ---- what is in the set has a bit, and vice versa
 
 -- a member has a word
 pub member_within : (first : ℕ) (words : List ℕ) (n : ℕ) → contains (flagged first words) n ≡ true → (first ≤ n) × (n < first + 64 * length words)

@@ -1,4 +1,4 @@
--- A block that changes and stands in the same sets.
+-- A block that changes and stays in the same sets.
 use Rattle.std.proofs.Common.{◌≡◌, ◌≢◌, ℕ, ◌<◌, ◌≤◌, Bool, true, false, cond, not, ◌||◌, ◌&&◌, ◌==◌, nat_le, List, Some, slice_get, set, refl, sym, ap, ◌∙◌, subst, ⊎_elim, arith}
 use Rattle.std.proofs.lemmas.Bool.{cases_Bool, cases_eq, cases_lt, eq-eqb, ne_eqb, eqb-true, and_left, and_from, and_parts, le-leb, both_ways, not-true, not_from_false}
 use Rattle.std.proofs.lemmas.Option.{slice_get_within}

@@ -24,7 +24,7 @@ none_past n i fits past = off_bit n i (bit_at_above n 64 i fits past)
 pub within_word : (n i : ℕ) → n < 2 ^ 64 → has_bit n i ≡ true → i < 64
 within_word n i fits on = ⊎_elim (λ lt. lt) (λ (past : 64 ≤ i). absurd (both_ways _ (none_past n i fits past) on)) (cases_lt i 64)
 
--- a word whose bits all stand below 64 fits
+-- a word whose bits are all below 64 fits
 pub fits_word : (n : ℕ) → ((i : ℕ) → has_bit n i ≡ true → i < 64) → n < 2 ^ 64
 fits_word n below =
     let same : n ≡ n % 2 ^ 64 = same_from_bits n (n % 2 ^ 64) (λ i. low i ∙ ap (λ m. bit_at m i) (and_mask n 64)) in

@@ -130,7 +130,7 @@ kind_is Scanned Atomic on = absurd (both_ways _ refl on)
 kind_is Atomic Scanned on = absurd (both_ways _ refl on)
 kind_is Atomic Atomic on = refl
 
--- blocks that stand in the sets of the same classes
+-- blocks that are in the sets of the same classes
 same_rooms : (old new : Block) → has_same_room old new ≡ true → (d : ℕ) → has_room d old ≡ has_room d new
 same_rooms old new alike d = room_is d old ∙ parts (has_free_cell old) (has_free_cell new) alike ∙ sym (room_is d new)
   where

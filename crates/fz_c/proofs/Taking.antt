@@ -15,7 +15,7 @@ use Rattle.fz_c.specs.Told.{IsFound}
 use Rattle.fz_c.specs.Places.{TellsEntry}
 use Rattle.fz_c.specs.Takes.{Finished, FinishesAndTakes, IsNextTold, Taken, Takes, Waited, Waits, finished}
 
--- where nothing is told at the next place, nothing stands there
+-- if nothing is returned at the next place, there is nothing
 pub none_next : (w : WorldView) (from place : ℕ) → IsNext w from place → ((e : answers.Entry) → slice_get w.queue place ≡ Some e → IsFalse (is_held w e)) → None ≡ slice_get w.queue place
 none_next w from place next none = by (slice_get w.queue place) refl
   where

@@ -2,7 +2,7 @@
 use Rattle.std.proofs.Common.{◌≡◌, ◌≤◌, ◌<◌, ℕ, zero, suc, ◌+◌, min, List, [], ◌∷◌, length, take, drop, set, refl, sym, ap, subst, ◌∙◌, add-one, arith}
 use Rattle.std.proofs.lemmas.List.{drop-drop, drop-set-lt, length-drop}
 
--- the first of the list stand in the buffer, and the others are left
+-- the first of the list are in the buffer, and the others are left
 pub record IsFilled {X : Type 0} (filled : ℕ) (words left buffer : List X) : Type 0 where
   pub within : filled ≤ length words
   pub left_is : left ≡ drop filled words

@@ -26,7 +26,7 @@ use Rattle.fz_finalizers.specs.States.{AreFlags}
 use Rattle.fz_finalizers.proofs.Counting.{len_grown, len_gone, len_less}
 use Rattle.fz_finalizers.proofs.Flags.{flags_entered, flags_left, flags_removed, late_is_normal, no_flags}
 
--- none is exhausted where no cause stands
+-- none is exhausted if no cause holds
 not_exhausted : (table : Map Registration) (next object : ℕ) → first_cause (register_causes table next object) ≡ None → next < COUNT_LIMIT
 not_exhausted table next object none = first (object == 0) none
   where
@@ -157,7 +157,7 @@ module _ (table : Content) (cleanups : Map Attached) (ready : Ready) (fits : Fit
       let numbers = fits.numbers in
       record { room = omega (arith, more, count, room); numbers = omega (arith, more, count, queued, numbers); few = omega (arith, below); flags = fits.flags })
 
--- where no cause stands, a cleanup has a number and a place
+-- if no cause holds, a cleanup has a number and a place
 pub can_add : (cleanups : Map Attached) (next object : ℕ) → first_cause (add_causes cleanups next object) ≡ None → (next < COUNT_LIMIT) × (len cleanups < MOST_ENTRIES)
 can_add cleanups next object none = first (object == 0) none
   where

@@ -77,7 +77,7 @@ module _ (e : Ephemerons) (word to : ℕ) where
   abbrev after : Ephemerons
   after = record { short = moved_to e.short word to (get e.short word); long = moved_to e.long word to (get e.long word) }
 
-  -- it moves where nothing stands
+  -- it moves to where nothing is
   moves_there : has_ephemeron e to ≡ false → moved e word to ≡ after
   moves_there free = ap (λ b. if b then e else after) free
 

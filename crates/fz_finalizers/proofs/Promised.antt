@@ -576,7 +576,7 @@ taken_all s past p = subst (λ n. Promises (record s { taken = n; held = unfinis
 
 -- ---- an entry is finished
 
--- what a test keeps stands among what is left
+-- what a test keeps is among what is left
 pub kept_in : {X : Type 0} (q : X → Bool) (xs : List X) (k : ℕ) (x : X) → slice_get xs k ≡ Some x → q x ≡ true → (i : ℕ) × (slice_get (filter q xs) i ≡ Some x)
 kept_in q [] k x at on = absurd (none-some x at)
 kept_in q (y ∷ ys) zero x at on = (0, ap (λ b. slice_get (cond b (y ∷ filter q ys) (filter q ys)) 0) (ap q (same_Some y x at) ∙ on) ∙ at)

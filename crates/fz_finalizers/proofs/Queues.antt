@@ -1,4 +1,4 @@
--- The entries in memory and the places of those that are held: where a number stands, a pass's entries come, one is finished, and finished ones go.
+-- The entries in memory and the places of those that are held: where a number is; a pass's entries come, one is finished, and finished ones go.
 use Rattle.std.proofs.Common.{◌≡◌, ◌≢◌, ℕ, ◌+◌, ◌-◌, ◌^◌, ◌<◌, ◌≤◌, Bool, true, false, cond, not, ◌&&◌, ◌||◌, List, [], ◌∷◌, ◌++◌, length, drop, take, refl, sym, ap, ◌∙◌, subst, inl, inr, ⊎_elim, arith, suc, zero, get_or, filter, true≢false, ◌==◌, length-append, Option, Some, None, Contains, slice_get, IsFalse, nat_le, nat_lt}
 use Rattle.std.proofs.lemmas.Option.{none-some, same_Some, slice_get_within, slice_get_past, slice_get-get_or, slice_get_cases, get_or_from_slice_get}
 use Rattle.std.proofs.lemmas.List.{drop-append-le, get_or-take, length-drop, length-take-le, take-append-drop}
@@ -68,7 +68,7 @@ any_one p (y ∷ xs) (suc k) x at on = ap (λ b. p y || b) (any_one p xs k x at 
 other : (entry e : Entry) → (entry.seq ≡ e.seq → ⊥) → same_entry entry e ≡ false
 other entry e ne = ap (λ b. b && ((entry.pass == e.pass) && ((entry.reg == e.reg) && ((entry.obj == e.obj) && ((entry.birth == e.birth) && ((entry.proc == e.proc) && (entry.cd == e.cd))))))) (ne_eqb entry.seq e.seq ne)
 
--- ---- where numbers stand
+-- ---- where numbers are
 
 module _ (entries : List Entry) (kept first : ℕ) (h : AreStored entries kept first) where
   -- a place of the window, and its number
@@ -475,7 +475,7 @@ module _ (past entries : List Entry) (kept first : ℕ) (held : Set) (outstandin
     at_old : (k : ℕ) (e : Entry) → slice_get left k ≡ Some e → (j : ℕ) × (slice_get entries j ≡ Some e)
     at_old k e at = let there = place_in held 0 entries k e (ap (λ (es : List Entry). slice_get es k) (sym left_is) ∙ at) in (there.0, there.1)
 
-    -- of two that stay, the first stood before the second
+    -- of two that stay, the first came before the second
     ordered : (from : ℕ) (es : List Entry) → ((k : ℕ) (d : Entry) → slice_get es k ≡ Some d → slice_get entries (from + k) ≡ Some d) → (i j : ℕ) (d e : Entry) → slice_get (placed_in held from es) i ≡ Some d → slice_get (placed_in held from es) j ≡ Some e → i < j → d.seq < e.seq
     ordered from [] at i j d e one two lt = absurd (none-some d one)
     ordered from (x ∷ es) at i j d e one two lt = by (ordered (from + 1) es (λ k y is. ap (slice_get entries) (omega arith) ∙ at (suc k) y is)) (contains held from) i j one two lt

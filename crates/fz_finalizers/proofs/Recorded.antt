@@ -1,4 +1,4 @@
--- A number stands for what was registered under it.
+-- A number identifies what was registered under it.
 use Rattle.std.proofs.Common.{◌≡◌, ◌≢◌, ℕ, zero, suc, ◌+◌, false, cond, nat_cmp, List, [], ◌∷◌, ◌++◌, length, length-append, map, option_map, Option, None, Some, slice_get, get_or, All, Contains, refl, sym, ap, subst, ◌∙◌, ⊎_elim, arith}
 use Rattle.std.proofs.lemmas.Bool.{cases_eq, eq-eqb, ne_eqb}
 use Rattle.std.proofs.lemmas.Option.{same_Some, none-some, slice_get-get_or, slice_get_within, get_or_from_slice_get}

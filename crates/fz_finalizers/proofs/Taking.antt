@@ -27,7 +27,7 @@ none_of entry (e ∷ es) none = by (same_entry entry e) refl none (none_of entry
     by true is h rest = absurd (true≢false h)
     by false is h rest = ap (λ ds. e ∷ ds) (rest h)
 
--- the next that is taken stands before the rest
+-- the next that is taken comes before the rest
 pub next_waits : (queue : List Entry) (taken : ℕ) (e : Entry) → slice_get queue taken ≡ Some e → drop taken queue ≡ e ∷ drop (taken + 1) queue
 next_waits queue taken e at =
     drop-cons queue taken e (slice_get_within queue taken e at)

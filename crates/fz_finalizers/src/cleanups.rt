@@ -21,8 +21,8 @@ pub struct Cleanup {
     pub when: LinkKind,
     /// The procedure to call: any number, which is returned in the entry.
     pub procedure: u64,
-    /// The argument for the procedure, which may be any number. If it is an address, the host's marker treats it as a root (`Finalizers::roots`). So it must
-    /// not lead to the object: then the cleanup would never be queued.
+    /// The argument for the procedure, which may be any number. If the host marks from it (`Root::RegisteredData`), it must not lead to the object: then the
+    /// cleanup would never be queued.
     pub client_data: u64,
     /// Among the short cleanups that one pass queues, and among the long ones, lower ranks come first.
     pub rank: u8,

@@ -28,7 +28,8 @@ pub struct Finalizer {
     pub kind: Kind,
     /// The procedure to call: any number, which is returned in the entry.
     pub procedure: u64,
-    /// The argument for the procedure: any number, too. If it is an address, the host's marker treats it as a root (`Finalizers::roots`).
+    /// The argument for the procedure: any number, too. If the host marks from it (`Root::RegisteredData`), it must not lead to the object of its registration,
+    /// which would then never be queued.
     pub client_data: u64,
     /// Among finalizers queued by one pass, lower ranks come first.
     pub rank: u8,

@@ -108,16 +108,16 @@ impl Finalizers {
         passed
     }
 
-    /// Carries out a pass over a heap with ephemerons, which finds, queues and retains by what sets of objects hold. A set holds the objects that its members
-    /// reach, and the value of each ephemeron whose key and whose holder it holds; the holder is the object in which the ephemeron's word lies. Everything else
-    /// is as `pass` says.
+    /// Carries out a pass over a heap with ephemerons. What it finds, queues and retains depends on what sets of objects hold. A set holds the objects that its
+    /// members reach, and the value of each ephemeron whose key and whose holder it holds; the holder is the object in which the ephemeron's word lies.
+    /// Everything else is as `pass` says.
     ///
     /// First the pass marks the value of each ephemeron whose key and holder are marked, with everything that the value reaches, until no more values follow.
     /// What is marked then is found. A short ephemeron whose key isn't found is cleared and removed with the short links, and a long one whose key isn't
     /// retained with the long links. An ephemeron whose word lies in an object that isn't retained is removed too. So an ephemeron never retains its own key.
     ///
-    /// Takes no memory. Takes the time of `pass`, and marks values four times. Each of these times it asks for the marks of the keys and holders of all
-    /// ephemerons, and asks again about those that wait only while values are marked. The host has to ensure that keys are its objects too.
+    /// Takes no memory. Takes the time of `pass`, and marks values at four points of the pass. At each point it asks for the marks of the keys and holders of
+    /// all ephemerons, and asks again about the waiting ones only as long as values are marked. The host has to ensure that keys are its objects too.
     pub fn pass_with_ephemerons<H: Values>(&mut self, host: &mut H) -> Passed
         requires registered { AreRegistered (H.objects host.old) self.old.registrations }
         requires short { AreTargets (H.objects host.old) self.old.short }

@@ -28,7 +28,8 @@ use std::marker::{Model, PhantomData};
 
 /// Every entry ever queued, in order, and which of them aren't finished; these are held.
 ///
-/// In memory are a window, the entries from one number on, and before it the held entries with smaller numbers. The model is the whole queue.
+/// Two parts are in memory: the window, which is all entries from some number on, and before it the held entries with smaller numbers. The model is the whole
+/// queue.
 #[derive(Drop)]
 pub(crate) struct Queue {
     past: Past,

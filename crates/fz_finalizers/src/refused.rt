@@ -5,8 +5,8 @@ ghost use Rattle.std.specs.Prelude.{◌≡◌};
 use std::alloc::AllocError;
 use thiserror::Error;
 
-/// Why a call of `Finalizers` was refused. A refused call changes no registration, link, ephemeron or entry. It may have reserved room, or moved entries
-/// in memory, which ends an iteration over roots.
+/// Why a call of `Finalizers` was refused. A refused call changes no registration, link, ephemeron, cleanup or entry. It may have reserved room, or moved
+/// entries in memory, which ends an iteration over roots.
 #[derive(Clone, Copy, Debug, PartialEq, Eq, Error)]
 pub enum Refused {
     /// Zero is neither an object nor a word.

@@ -55,7 +55,7 @@ fn make_room(table: &Table, cleanups: usize, ready: &mut Ready, object: Addr) ->
     Err(refused)
 }
 
-/// Registers an object's finalizer, where there is this number of cleanups. Returns the number and what was replaced.
+/// Registers an object's finalizer. `cleanups` is the number of cleanups that there are. Returns the registration number and what was replaced.
 pub(crate) fn register(
     table: &mut Table,
     cleanups: usize,

@@ -15,11 +15,11 @@ use std::marker::Model;
 /// A kind of roots.
 #[derive(Clone, Copy, Debug, PartialEq, Eq)]
 pub enum Root {
-    /// The objects of entries that wait or are held. These objects themselves are roots.
+    /// The objects of entries that wait or are held. These objects themselves are roots. The entry of a cleanup has no object, and yields 0.
     HeldObject,
     /// The client data of entries that wait or are held. It is a root if it points to an object.
     HeldData,
-    /// The client data of registrations, for hosts that treat it as a root: in bdwgc this is a build option. And the client data of cleanups.
+    /// The client data of registrations and of cleanups, for hosts that treat it as a root: in bdwgc this is a build option.
     RegisteredData,
 }
 

@@ -25,7 +25,7 @@ fn pick_of(object: Addr, registration: Registration) -> Pick
 }
 
 impl Finalizers {
-    /// Begins a pass that is carried out by individual calls, and returns its number. From now on `queue` adds entries to it.
+    /// Begins a pass whose decisions the caller makes, as `fz_machine` does; a host calls `pass`. Returns its number. From now on `queue` adds entries to it.
     pub fn begin_pass(&mut self) -> u64
         ensures number { result ≡ next_pass self.old.passes }
         ensures follows { Follows self.old.state Begin self.new.state }

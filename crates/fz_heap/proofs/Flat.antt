@@ -1,4 +1,4 @@
--- Objects whose words stand flat: their extents, and what a write and a new object make of them.
+-- Objects whose words lie in one list: their extents, and the effect of a write and of a new object.
 use Rattle.std.proofs.Common.{take, drop, add-one, [], None, Bool, subst, if◌then◌else◌, ◌≡◌, ◌≢◌, ℕ, zero, suc, ◌+◌, ◌-◌, ◌*◌, ◌<◌, ◌≤◌, cond, ◌==◌, List, ◌∷◌, length, Some, option_map, option_and_then, unwrap_or, refl, sym, ap, ◌∙◌, ⊎_elim, arith, slice_index, set, replicate, get_or-set_same, get_or-set_other}
 use Rattle.std.proofs.lemmas.Bool.{cases_eq, cases_lt, eq-eqb, ne_eqb}
 use Rattle.std.proofs.Math.Seq.{drop-cons}

@@ -19,7 +19,7 @@ total-sum_by h (x ∷ xs) = ap (λ n. h x + n) (total-sum_by h xs) ∙ sym (sum_
 pub total_moved : (h : Entry → ℕ) (xs ys : List Entry) → IsPermutation xs ys → total h xs ≡ total h ys
 total_moved h xs ys p = total-sum_by h xs ∙ sym (sum_by-IsPermutation h xs ys p) ∙ sym (total-sum_by h ys)
 
--- an entry that stands in the list can be put first
+-- an entry of the list can be put first
 abbrev Pulls : Entry → List Entry → Type 0
 Pulls x ys = (rest : List Entry) × IsPermutation ys (x ∷ rest)
 

@@ -17,12 +17,12 @@ use Rattle.fz_machine.proofs.Among.{Each, OneOf, each_as, each_filter, each_from
 use Rattle.fz_machine.proofs.Sifting.{IsAt}
 
 module _ {X : Type 0} (m : Map X) (es : List (ℕ × X)) (are : AreEntriesOf m es) where
-  -- what is listed stands in the map
+  -- what is listed is in the map
   pub stands : Each (λ e. get m e.0 ≡ Some e.1) es
   stands = each_from (λ e. get m e.0 ≡ Some e.1) es
       (All-weaker (Contains es) (λ e. get m e.0 ≡ Some e.1) (λ e is_in. ap (λ (n : Map X). get n e.0) (sym are.0) ∙ got es e.0 e.1 are.1 is_in) es (All-contains_itself es))
 
-  -- and what stands there is listed
+  -- and what is there is listed
   entered : (P : ℕ × X → Type 0) (a : ℕ) (x : X) → get m a ≡ Some x → P (a, x) → OneOf P es
   entered P a x here p = one_from P es (a, x) (listed es a x (ap (λ (n : Map X). get n a) are.0 ∙ here)) p
 

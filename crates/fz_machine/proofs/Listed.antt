@@ -9,7 +9,7 @@ use Rattle.fz_machine.specs.Items.{AreLinks, of_link, target_of}
 use Rattle.fz_machine.specs.Regions.{is_marked, is_unmarked}
 
 module _ {X Y : Type 0} (f : X → Y) (before : List Y) (es : List X) where
-  -- the entries that were yielded stand on the list, behind what stood there
+  -- the entries that were yielded are on the list, after what was there
   pub record AreListed (items : List Y) (done it : List X) : Type 0 where
     pub listed : items ≡ before ++ map f done
     pub few : length items + length it ≤ length before + length es

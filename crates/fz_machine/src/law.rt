@@ -28,34 +28,34 @@ pub fn runs_make_the_plain_pass()
 /// Whatever the host answers and tells, and whatever is taken and finished meanwhile, a pass processes at most six answers for each registration, three for
 /// each link and one for each cleanup; and for `n` ephemerons `11 * n + n * (2 * n + 1)`. An ephemeron whose key, holder and value are marked is asked about
 /// three times in a pass. The others are put off, and the later phases ask about these alone. A value is asked about once. At most two further rounds follow
-/// each round in which a value is asked about: one over the ephemerons whose keys were told, and one over all that still wait. This bounds answers, not calls:
-/// a call of `next` without answers repeats the question, so a host that never answers never reaches the end. Each question is about at least one item, or
-/// about regions, which `region_questions_end` bounds: so a host that answers at least one item of each question about items reaches the end after at most that
-/// many questions, and those about regions.
+/// each round in which a value is asked about: one over the ephemerons whose keys were told, and one over all that still wait.
+///
+/// This bounds answers, not calls: a call of `next` without answers repeats the question, so a host that never answers never reaches the end. Each question is
+/// about at least one item, or about regions. So a host that answers at least one item of each question about items reaches the end after at most as many such
+/// questions; `region_questions_end` bounds the others.
 pub fn passes_end()
     ensures { PassesEnd }
 {}
 
 /// Whatever the host answers and tells, and whatever is taken and finished meanwhile, a pass of a machine with regions processes words for at most one question
-/// for each 64 regions that each of its tables has when it begins, and one for those left over in each. A call without their words repeats the question, as
-/// above.
+/// for each 64 regions that each of its tables has when it begins, and one for the rest of each. A call without these words repeats the question.
 pub fn region_questions_end()
     ensures { RegionQuestionsEnd }
 {}
 
-/// What is marked when a pass begins costs the host of a machine with regions no answer about an item, if its words and answers are true of a graph and all of
-/// its kind is noted. Such a pass processes at most five answers for each registration whose object isn't marked, one for each link whose target isn't marked,
-/// and none for cleanups. Ephemerons aren't noted: `passes_end` has the number of answers for them, and for a kind of which not all is noted. The bound holds
-/// for each part of a run, too, from its begin on.
+/// With regions the number of answers about items is bounded by what is unmarked when a pass begins, if words and answers are true of a graph, and all items of
+/// the kinds are noted. Such a pass processes at most five answers for each registration whose object isn't marked, one for each link whose target isn't marked,
+/// and none for cleanups. Ephemerons aren't noted: `passes_end` has the number of answers for them, and for a kind of which not all items are noted. The bound
+/// also holds for each part of a run, from its begin on.
 pub fn marked_items_cost_no_answers()
     ensures unmarked { CostsUnmarked (Unit {0}) }
     ensures unmarked_of_more { CostsUnmarked ⊥ }
 {}
 
-/// Questions are full, but for few, since kinds of which the same is asked come together: a run whose questions are each answered whole has, for each 64 answers,
-/// at most one question about registrations, links and cleanups, and 16 more. So with `marked_items_cost_no_answers` a machine with regions asks at most
-/// `u / 64 + 16` of them, where `u` is the number of answers there. A question about ephemerons is about one at least, and `region_questions_end` bounds those
-/// about regions.
+/// Most questions are full, because items about which the same is asked come together. A run whose questions are each answered whole has at most one question
+/// about registrations, links and cleanups for each 64 answers, and 16 more. So with `marked_items_cost_no_answers` a machine with regions and without
+/// ephemerons asks at most `u / 64 + 16` of them, where `u` is the bound on answers that it gives. A question about ephemerons is about at least one, and
+/// `region_questions_end` bounds the questions about regions.
 pub fn questions_are_about_64_items()
     ensures batched { AsksBatches (Unit {0}) }
     ensures batched_of_more { AsksBatches ⊥ }

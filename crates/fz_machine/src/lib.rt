@@ -1,4 +1,4 @@
-//! Finalizers whose pass asks questions: for a host that answers them, such as one in C.
+//! Finalizers whose pass asks questions, for a host that answers them: one in Rattle that has no contract, or one in C.
 #![tactic(auto)]
 
 mod abandoning;

@@ -23,7 +23,7 @@ pub struct By {
     pub live: bool,
 }
 
-/// Finalizers whose pass asks one question after another, for a host that can't be called back.
+/// Finalizers whose pass asks one question after another: for a host that has no contract, as `asked_heap`, or that can't be called back, as one in C.
 ///
 /// A pass is open from `begin` until `next` returns that it has ended. Meanwhile entries can be taken and finished, and keys told; every other change is
 /// refused.
@@ -151,7 +151,7 @@ impl Machine {
         &self.finalizers
     }
 
-    /// Whether the last question was about regions: then `next_marks` takes its answers, and else `next_bits`.
+    /// Whether the last question was about regions: then only `next_marks` takes its answers, and else `next` or `next_bits` does.
     pub fn asks_marks(&self) -> bool
         ensures items { IsFalse result → self.now.regions ≡ [] }
         ensures regions { IsTrue result → (self.now.asked ≡ 0) × (0 < length self.now.regions) }

@@ -78,7 +78,8 @@ impl Machine {
 
     /// Carries out a pass over a host that can be called: answers one question after another by the methods of the host, until the pass ends. So it does what
     /// `Finalizers::pass_with_ephemerons` does, and what `runs_make_the_pass` says of answers and words that are true. The host's marking has to be complete,
-    /// its objects have no births, and registered objects, targets of links and keys have to be objects of the host (`MayBegin`).
+    /// its objects have no births, and registered objects, targets of links and keys have to be objects of the host (`MayBegin`). The caller also proves that
+    /// calls led to the state of the finalizers (`reached`).
     ///
     /// Takes no memory. A machine with regions asks about the 64 places of each region one by one here; a host that has its marks in words of bits answers
     /// faster itself, by `next_marks`. Fails with `PassOpen`.

@@ -36,7 +36,7 @@ pub enum Step {
 }
 
 impl Machine {
-    /// Opens a pass, and returns its number. The host's marking has to be complete. The first call of `next` gets no answers.
+    /// Opens a pass, and returns its number. The host's marking has to be complete. The first call of `next` ignores its answers.
     ///
     /// Fails with `PassOpen`.
     pub fn begin(&mut self) -> Result<u64, Refused>
@@ -129,7 +129,8 @@ impl Machine {
 
     /// Processes the answers to the last question, and returns what comes next: another question or the end. For `IsMarked` and `IsHolderMarked` the answers
     /// have to be what the host's marks say, and for `MarkValue` whether something may have been marked; other commands need an answer too, whose value is
-    /// ignored. Items left unanswered are asked again. Takes time proportional to the question and its answers.
+    /// ignored. Items left unanswered are asked again. If the last question was about regions, it is repeated, whatever the answers: `next_marks` takes those.
+    /// Takes time proportional to the question and its answers.
     ///
     /// Takes no memory. Fails with `NoPass` if no pass is open.
     pub fn next(&mut self, answers: &[bool]) -> Result<Next, Refused>

@@ -23,7 +23,8 @@ pub enum Ask {
     MarkAlone,
     /// Set the word to zero: its link is removed.
     Clear,
-    /// Is the object that contains the word marked, or does no object contain it?
+    /// Is the object that contains the word marked? True if the word is none of an object, as a weak word outside the heap; false if it lies in an object that
+    /// was reclaimed.
     IsHolderMarked,
     /// Which objects of a region are marked? The region is named by its first address, and has 64 places, 16 bytes apart from there on. The answer is a word:
     /// its bit `i`, counted from the lowest, says whether the object that begins at place `i` is marked. If none begins there, the bit may have any value.

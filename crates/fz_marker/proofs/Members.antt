@@ -17,7 +17,7 @@ use Rattle.fz_model.proofs.MapEntries.{T-first, T-second, below_at, own_key, oth
 use Rattle.fz_bits.specs.Flags.{Set}
 use Rattle.fz_model.proofs.Sets.{same_members}
 
--- ---- a map's keys stand in their list once each
+-- ---- a map's list of keys has each key once
 
 abbrev pub StandOnce : List ℕ → Type 0
 StandOnce xs = (i j a : ℕ) → slice_get xs i ≡ Some a → slice_get xs j ≡ Some a → i ≡ j
@@ -108,7 +108,7 @@ module _ (test : ℕ → Bool) (Has : ℕ → ℕ → Type 0) (one : (a b w : �
           let fewer = one_fewer set own.0 own.1 in
           omega (arith, all, few, fewer)
 
--- where all that pass one test stand in a list and pass another, no more do
+-- if all that pass one test are in a list and pass another, no more do
 pub count_among : (p q : ℕ → Bool) (xs ys : List ℕ) → StandOnce xs → ((i a : ℕ) → slice_get xs i ≡ Some a → IsTrue (p a) → ((j : ℕ) × (slice_get ys j ≡ Some a)) × IsTrue (q a)) → count_by p xs ≤ count_by q ys
 count_among p q xs ys once each =
     let few = count_members p (λ a w. a ≡ w) (λ a b w e f. e ∙ sym f) (from_list (filter q ys)) xs once (λ i a here passes. (a, listed i a here passes, refl)) in

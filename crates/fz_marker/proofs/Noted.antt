@@ -1,4 +1,4 @@
--- How many marked objects stand on noted pages: no more than these have words.
+-- How many marked objects lie on noted pages: no more than these have words.
 use Rattle.std.proofs.Common.{◌≡◌, ◌≢◌, ℕ, zero, suc, ◌+◌, ◌*◌, ◌<◌, ◌≤◌, ◌&&◌, ◌||◌, ◌++◌, not, Bool, true, false, List, [], length, length-append, Some, nat_cmp, nat_eq, refl, sym, ap, ◌∙◌, subst, ◌⊎◌, inl, inr, arith, IsTrue}
 use Rattle.std.proofs.lemmas.Bool.{and_parts, both_ways, cases_eq, eq-eqb, or_left, or_right}
 use Rattle.std.proofs.lemmas.List.Folds.{list_any-append}
@@ -50,7 +50,7 @@ page_words (suc n) pages count =
 -- ---- objects by their words on noted pages
 
 module _ (objects : Map Object) (noted : Set) where
-  -- a word of the object stands on a noted page
+  -- a word of the object lies on a noted page
   abbrev HasNotedWord : ℕ → ℕ → Type 0
   HasNotedWord a w = IsTrue (contains noted (block_of w)) × (o : Object) × (get objects a ≡ Some o) × (a ≤ w) × (w < a + length o.words)
 
@@ -76,7 +76,7 @@ module _ (objects : Map Object) (noted : Set) where
             let on = word.on in
             (word.address, contains-from_list_nat words.0 word.address ∙ words.2 page.0 word.address page.1 (omega (arith, from, after, on)) (omega (arith, from, after, on)), (subst (λ p. IsTrue (contains noted p)) (sym on) page.1, word.object, word.here, word.after, word.before))
 
-    -- what is to be scanned at the end of a cycle wasn't scanned before, or stands on a noted page
+    -- what is to be scanned at the end of a cycle wasn't scanned before, or lies on a noted page
     to_scan_cases : (m s n b : Bool) → count_is ((m && (not s || n)) && b) ≤ count_is ((m && not s) && b) + count_is ((m && n) && b)
     to_scan_cases false s n b = omega arith
     to_scan_cases true true n b = omega arith

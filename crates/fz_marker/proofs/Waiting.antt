@@ -81,7 +81,7 @@ module _ (objects : Map Object) (noted : Set) where
     Ahead : ℕ → ℕ → Type 0
     Ahead from = IsAhead objects noted page from
 
-    -- what stands on a page from one on is that of its first word, or lies ahead
+    -- what lies on a page from one on is that of its first word, or lies ahead
     to_ahead : (a : ℕ) → IsTrue (contains c.marks.members a) → IsOnNotedFrom objects noted page a → (points objects (block_start page) ≡ Some a) ⊎ Ahead (block_start page) a
     unfolding Ahead
     to_ahead a h p =

@@ -91,7 +91,7 @@ unchanged old from to answer not_success = record {
   unmoved = λ _. refl;
 }
 
--- a link stands in the table, so there is one
+-- a link is in the table, so there is one
 some_links : (links : Map ℕ) (place target : ℕ) → get links place ≡ Some target → 1 ≤ len links
 some_links links place target here =
     let at = place_of_key links place target here in

@@ -24,9 +24,9 @@ use Rattle.fz_model.specs.Joint.{is_finish}
 use Rattle.fz_model.specs.Headline.{is_pass}
 use Rattle.fz_model.proofs.Sound.{first_none}
 
--- ---- causes that don't stand
+-- ---- causes that don't hold
 
--- of accepted causes none stands
+-- of the causes of an accepted call none holds
 abbrev pub NoneStands : Causes → Type 0
 NoneStands [] = Unit {0}
 NoneStands (cause ∷ causes) = (cause.0 ≡ false) × NoneStands causes

@@ -1,4 +1,4 @@
--- The finite map of a table's list of entries: how many it has, what stands in it, and whether it stays within the table's limit.
+-- The finite map of a table's list of entries: how many it has, what it contains, and whether it stays within the table's limit.
 -- A contract sees a table's iterator as the list of what is left. So a loop for (key, x) in table.iter() keeps the invariant
 -- from_entries (l.yielded ++ l.key-iterator) ≡ l.table, with no answer, and at its end nothing is left. Then got, listed and
 -- All-got go between such a list and what get answers.
@@ -22,7 +22,7 @@ module _ {X : Type 0} where
   absent k [] h = refl
   absent k (e ∷ es) h = ap (λ b. cond b (Some e.1) (lookup (nat_eq k) es)) h.0 ∙ absent k es h.1
 
-  -- where each key stands once, the map has as many entries as the list
+  -- if each key occurs once, the map has as many entries as the list
   pub len_made : (es : List (ℕ × X)) → IsDistinct nat_eq (keys_of es) → len (from_entries {R = nat_cmp} es) ≡ length es
   len_made [] h = len-empty nat_cmp X
   len_made (e ∷ es) h =
@@ -35,7 +35,7 @@ module _ {X : Type 0} where
   pub listed : (es : List (ℕ × X)) (k : ℕ) (x : X) → get (from_entries {R = nat_cmp} es) k ≡ Some x → Contains es (k, x)
   listed es k x h = Contains-from_lookup eqb-true k x es (sym (get_made es k) ∙ h)
 
-  -- and where each key stands once, what is in the list is what the map has
+  -- and if each key occurs once, what is in the list is what the map has
   pub got : (es : List (ℕ × X)) (k : ℕ) (x : X) → IsDistinct nat_eq (keys_of es) → Contains es (k, x) → get (from_entries {R = nat_cmp} es) k ≡ Some x
   got es k x once h = get_made es k ∙ lookup-from_Contains nat_eq_equiv k x es once h
 

@@ -28,7 +28,7 @@ use Rattle.fz_model.proofs.Maps.{get-extents, not_some}
 use Rattle.fz_model.proofs.Objects.{from_covers, to_covers}
 use Rattle.fz_model.proofs.Standing.{pointed_at}
 
--- ---- the first cause that stands is told
+-- ---- the first cause that holds is returned
 
 told : (s : State) (e : Event) (r : Refusal) → first_cause (causes s.core e) ≡ Some r → AlwaysRefuses s e r
 told s e r first (Ok answer) new step = absurd (none-some r (sym step.0 ∙ first))
@@ -256,7 +256,7 @@ workers_come_first j w missing = record {
 
 -- ---- memory, sizes, counts and tables
 
--- whether a cause with this number stands
+-- whether a cause with this number holds
 abbrev stands_as : ℕ → Causes → Bool
 stands_as code [] = false
 stands_as code (cause ∷ causes) = ((code_of cause.1 == code) && cause.0) || stands_as code causes
@@ -275,7 +275,7 @@ told_stands (cause ∷ causes) r told =
 refused_stands : (s new : State) (e : Event) (r : Refusal) → (r ≡ NoMemory → ⊥) → Step s e (Err r) new → stands_as (code_of r) (causes s.core e) ≡ true
 refused_stands s new e r other step = ⊎_elim (told_stands (causes s.core e) r) (λ lacks. absurd (other lacks.1)) step.0
 
--- no list of causes has want of memory
+-- no list of causes contains out of memory
 no_memory : (c : Core) (e : Event) → stands_as 12 (causes c e) ≡ false
 no_memory c (Make (Register slot finalizer)) =
     let word = slot_word c.frames slot in
@@ -320,7 +320,7 @@ count_is_told same = omega (arith, ap code_of same)
 table_is_told : TableFull ≡ NoMemory → ⊥
 table_is_told same = omega (arith, ap code_of same)
 
--- a registration whose causes stand is on the heap
+-- a registration whose causes hold is on the heap
 on_heap : (s : State) (slot : Slot) (finalizer : Finalizer) (code : ℕ) → stands_as code (slot_causes s.frames slot ++ []) ≡ false → stands_as code (causes s.core (Make (Register slot finalizer))) ≡ true → stands_as code (slot_causes s.frames slot ++ (start_causes s.objects (slot_word s.frames slot) ++ register_causes s.registrations s.next_number (slot_word s.frames slot))) ≡ true
 on_heap s slot finalizer code none on =
     let word = slot_word s.frames slot in

@@ -261,7 +261,7 @@ fn line_again(rt: &impl Abort, alloc: Global, workers: u64) -> (Owner, Vec<Seat>
 
 /// If an allocation fails, the entries that aren't sent are the rest of the slice in order, and publishing them again sends them.
 #[test]
-fn stands_a_refused_push(rt: HostRuntime) -> Result<(), Fail> {
+fn survives_a_refused_push(rt: HostRuntime) -> Result<(), Fail> {
     let all = match entries(rt.alloc(), 2_000) {
         Ok(all) => all,
         Err(_) => entries(rt.alloc(), 2_000)?,

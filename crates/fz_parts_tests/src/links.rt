@@ -23,7 +23,7 @@ enum Step {
 use Step::{Get, Len, Move, Register, Reserve, Unregister};
 
 /// Whether a step returns the expected result.
-fn answers(links: &mut Links, step: Step) -> bool {
+fn is_right(links: &mut Links, step: Step) -> bool {
     match step {
         Reserve(more) => links.reserve(more) == Ok(()),
         Register(link, target, want) => links.register(link, target) == want,
@@ -37,7 +37,7 @@ fn answers(links: &mut Links, step: Step) -> bool {
 /// The index of the first step that returns another result.
 fn first_wrong(links: &mut Links, steps: &[Step]) -> Option<usize> {
     for (place, step) in steps.iter().enumerate() {
-        if !answers(links, *step) {
+        if !is_right(links, *step) {
             return Some(place);
         }
     }
@@ -45,14 +45,14 @@ fn first_wrong(links: &mut Links, steps: &[Step]) -> Option<usize> {
 }
 
 /// Each of these steps has to return the expected result.
-fn must_answer(rt: &impl Abort, links: &mut Links, steps: &[Step]) {
+fn must_run(rt: &impl Abort, links: &mut Links, steps: &[Step]) {
     must_be(rt, first_wrong(links, steps), None, "all steps");
 }
 
 #[test]
 fn registers_and_unregisters(rt: HostRuntime) {
     let mut links = Links::new(rt.alloc());
-    must_answer(
+    must_run(
         &rt,
         &mut links,
         &[
@@ -75,7 +75,7 @@ fn registers_and_unregisters(rt: HostRuntime) {
 #[test]
 fn moves_a_link(rt: HostRuntime) {
     let mut links = Links::new(rt.alloc());
-    must_answer(
+    must_run(
         &rt,
         &mut links,
         &[
@@ -130,12 +130,12 @@ fn drops_by_link_and_target(rt: HostRuntime) {
     links.drop_where(|link: u64, target: u64| -> bool { target == 3 || link < 10 });
     // 143 links have the target 3, and 9 others are below 10.
     let left = [Len(848), Get(9, None), Get(10, None), Get(11, Some(4))];
-    must_answer(&rt, &mut links, &left);
+    must_run(&rt, &mut links, &left);
     drop_all(&mut links);
-    must_answer(&rt, &mut links, &[Len(0)]);
+    must_run(&rt, &mut links, &[Len(0)]);
     drop_all(&mut links);
     let again = [Register(9, 1, Ok(LinkAnswer::Success))];
-    must_answer(&rt, &mut links, &again);
+    must_run(&rt, &mut links, &again);
 }
 
 /// A word above those of all the links.
@@ -149,7 +149,7 @@ fn holds_as_many_as_the_limit(rt: HostRuntime) {
         let answer = links.register(HEAP_START + number, number);
         must_be(&rt, answer, success, "one of all links");
     }
-    must_answer(
+    must_run(
         &rt,
         &mut links,
         &[
@@ -192,7 +192,7 @@ fn move_soon(rt: &impl Abort, links: &mut Links, link: Addr, new: Addr, number: 
 
 /// If an allocation fails, the call returns an error and changes nothing, and succeeds when it is repeated.
 #[test]
-fn stands_a_refused_growth(rt: HostRuntime) {
+fn survives_a_refused_growth(rt: HostRuntime) {
     let mut links = Links::new(rt.alloc());
     for number in 0..1_000u64 {
         let link = 70_000 + number;

@@ -21,7 +21,7 @@ enum Step {
 use Step::{Get, Len, Register, Remove, Reserve, Take};
 
 /// Whether a step returns the expected result.
-fn answers(table: &mut Table, step: Step) -> bool {
+fn is_right(table: &mut Table, step: Step) -> bool {
     match step {
         Reserve(more) => table.reserve(more) == Ok(()),
         Register(object, finalizer, want) => table.register(object, finalizer) == want,
@@ -35,7 +35,7 @@ fn answers(table: &mut Table, step: Step) -> bool {
 /// The index of the first step that returns another result.
 fn first_wrong(table: &mut Table, steps: &[Step]) -> Option<usize> {
     for (place, step) in steps.iter().enumerate() {
-        if !answers(table, *step) {
+        if !is_right(table, *step) {
             return Some(place);
         }
     }
@@ -43,7 +43,7 @@ fn first_wrong(table: &mut Table, steps: &[Step]) -> Option<usize> {
 }
 
 /// Each of these steps has to return the expected result.
-fn must_answer(rt: &impl Abort, table: &mut Table, steps: &[Step]) {
+fn must_run(rt: &impl Abort, table: &mut Table, steps: &[Step]) {
     must_be(rt, first_wrong(table, steps), None, "all steps");
 }
 
@@ -62,7 +62,7 @@ const REGISTRATION: Registration = Registration {
 #[test]
 fn registers_replaces_and_takes(rt: HostRuntime) {
     let mut table = Table::new(rt.alloc());
-    must_answer(
+    must_run(
         &rt,
         &mut table,
         &[
@@ -126,7 +126,7 @@ fn holds_as_many_as_the_limit(rt: HostRuntime) {
         );
         must_be(&rt, answer, Ok((number, None)), "one of all objects");
     }
-    must_answer(
+    must_run(
         &rt,
         &mut table,
         &[
@@ -169,7 +169,7 @@ fn register_soon(rt: &impl Abort, table: &mut Table, object: Addr, number: u64) 
 
 /// If an allocation fails, the call returns an error and changes nothing, and succeeds when it is repeated.
 #[test]
-fn stands_a_refused_growth(rt: HostRuntime) {
+fn survives_a_refused_growth(rt: HostRuntime) {
     let mut table = Table::new(rt.alloc());
     for number in 0..1_000u64 {
         register_soon(&rt, &mut table, 70_000 + number, number);

@@ -23,7 +23,7 @@ any_push p (y ∷ xs) x = ap (λ b. p y || b) (any_push p xs x) ∙ joined (p y)
     joined true b c = refl
     joined false b c = refl
 
--- where each key stands once, a key's value passes where an entry with the key passes
+-- if each key occurs once, a key's value passes if an entry with the key passes
 any_absent : (p : ℕ → Bool) (a : ℕ) (es : List (ℕ × ℕ)) → AllByRecursion (λ y. nat_eq a y ≡ false) (keys_of es) → list_any (λ e. nat_eq a e.0 && p e.1) es ≡ false
 any_absent p a [] h = refl
 any_absent p a (e ∷ es) h = ap (λ b. (b && p e.1) || list_any (λ e. nat_eq a e.0 && p e.1) es) h.0 ∙ any_absent p a es h.1

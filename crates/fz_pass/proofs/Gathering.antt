@@ -29,7 +29,7 @@ pub pushed : {X : Type 0} (b : Bool) (xs ys : List X) (v : X) → b ≡ true →
 pushed b xs ys v ok is = is ∙ ap (λ t. cond t (xs ++ v ∷ []) xs) ok
 
 module _ (queue : List Entry) (before first pass : ℕ) (within : before ≤ length queue) (are : drop before queue ≡ entries_of pass first (picks_of (drop before queue))) where
-  -- the queue is what stood before and the entries of the picks
+  -- the queue is what it was, and then the entries of the picks
   pub queue_is : queue ≡ take before queue ++ entries_of pass first (picks_of (drop before queue))
   queue_is = sym (take-append-drop before queue) ∙ ap (λ es. take before queue ++ es) are
 

@@ -32,8 +32,8 @@ fn has_second(table: &Table, terms: Terms) -> bool
     terms.tiers && table.has_unreachable()
 }
 
-/// Queues the unmarked objects of both tiers, and makes the marks whole after each: those of the second after the others, and only if nothing that the others
-/// hold is among them.
+/// Queues the unmarked objects of both tiers, those of the second after those of the first, and makes the marks whole after each tier. An object of the second
+/// tier is queued only if the objects of the first don't hold it.
 fn queue_tiers<H: Values>(
     host: &mut H,
     table: &mut Table,

@@ -41,6 +41,6 @@ come_back line workers seats h =
           (eq-eqb _ _ ((h.1 index d (omega (arith, few, within))).index ∙ seat_at line workers index d within)),
     )
 
--- and an end with them is refused for want of memory alone
+-- and an end with them fails only with out of memory
 pub lacks_memory : (workers : ℕ) (seats : List SeatState) (refusal : Refusal) → IsEachOnce workers seats → IsRefusedEnd workers seats refusal → refusal ≡ NoMemory
 lacks_memory workers seats refusal each refused = ⊎_elim (λ missing. absurd (missing.1 each)) (λ lacks. lacks.0) refused

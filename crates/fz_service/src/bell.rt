@@ -17,8 +17,9 @@ use std::sync::{Arc, Wait};
 /// sleeps only if the number hasn't changed since. A waker sends its entries or sets `stop` before it checks for sleepers. All these steps are sequentially
 /// consistent, so either the sleeper sees what was sent, or the waker sees the sleeper.
 ///
-/// That a worker looks after it has listened, and that entries are sent before the bell is rung for them, is required by `sleep` and by `Rung::ring`. Only a
-/// worker that counts as a sleeper listens and sleeps, and each of them gets up: the type `Sleeper` ensures that.
+/// `sleep` requires that the worker has checked `stop` and the line since it read the number of rings. `Rung::ring` requires that entries were sent before the
+/// bell is rung for them. Only a worker that counts as a sleeper reads the number and sleeps, and each sleeper is counted out again (`get_up`): the type
+/// `Sleeper` ensures that.
 #[derive(Drop)]
 pub(crate) struct Bell {
     sleepers: AtomicU64,

@@ -89,8 +89,9 @@ pub trait Program<R: Wait, T> {
 /// Opens a service of this size with this number of workers, runs the program while they serve, and ends the service. Returns what the program returned, and
 /// the totals. May block.
 ///
-/// The first worker has the first list of procedures, and so on. Fails with, in this order: `BadCount` if blocks, frames or workers are outside their limits,
-/// `NoMemory` if an allocation fails. If ending the service fails, what the program returned is dropped.
+/// The first worker has the first list of procedures, and so on; a worker without a list calls none. Fails with, in this order: `BadCount` if blocks or frames
+/// are outside the limits of `Config`, or workers aren't from 1 to 8, `NoMemory` if an allocation fails. If ending the service fails, what the program returned
+/// is dropped.
 pub fn with_service<T: Drop, P: Program<R, T> + Drop, R: Threads + Wait + Sync>(
     alloc: Global,
     config: Config,

@@ -175,7 +175,9 @@ impl<O: Opening> Locked<O> {
         self.world.copy(frame, slot, to_frame, to_slot)
     }
 
-    /// Registers a finalizer for the object at the slot's word. Takes time proportional to the heap for the first registration in a world.
+    /// Registers a finalizer for the object at the slot's word, in place of the registration that it may have, and returns the registration number and what was
+    /// replaced. A word that is zero or outside the heap is no error: nothing changes, and the result is `Outside`. Takes time proportional to the heap for the
+    /// first registration in a world.
     ///
     /// Fails with, in this order: `BadSlot`, `NotPointer`, `NotStart`, `Exhausted`, `TableFull`, `NoMemory`.
     pub fn register(
@@ -318,7 +320,7 @@ impl<O: Opening> Locked<O> {
     }
 
     /// Closes the world: from now on every registered object is a root, so no pass queues anything. Objects that are unreachable but not queued yet are
-    /// retained for ever; to avoid that, collect first.
+    /// retained for ever; to avoid that, first collect until a collection queues nothing while `outstanding` is 0.
     ///
     /// Fails with `Closed` if the world is closed already.
     pub fn close(&mut self) -> Result<(), Refusal>

@@ -101,7 +101,7 @@ impl<O: Opening> Locked<O> {
         queue_from(&self.world, self.rung.entries)
     }
 
-    /// How often a push ran out of memory, so that entries stayed in the overflow queue, or an end; modulo 2^64.
+    /// How often a push or an end of the service ran out of memory, modulo 2^64. After such a push entries stay in the overflow queue.
     pub fn shortages(&self) -> u64
         ensures { result ≡ self.now.shortages }
     {

@@ -97,7 +97,7 @@ impl fmt::Display for ServiceError {
 
 impl Error for ServiceError {}
 
-/// The error for what an opening below was refused.
+/// The error for the refusal of a line or a world that couldn't be opened.
 fn of_opening(refusal: Refusal) -> ServiceError
     ensures { result ≡ refusal }
 {

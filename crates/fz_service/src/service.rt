@@ -76,7 +76,8 @@ impl Service<Brand> {
     /// The line has room for as many entries as one pass can queue, min(65,536, 64 * blocks), so sending these allocates nothing. Each takes about 80 bytes:
     /// 5.2 MB and about 4 ms for a heap of 1,024 blocks or more.
     ///
-    /// Fails with, in this order: `BadCount` if blocks, frames or workers are outside their limits, `NoMemory` if an allocation fails.
+    /// Fails with, in this order: `BadCount` if blocks or frames are outside the limits of `Config`, or workers aren't from 1 to 8, `NoMemory` if an
+    /// allocation fails.
     pub fn prepare(alloc: Global, config: Config, workers: u64) -> Result<Prepared, ServiceError>
         ensures judged { IsJudgedOrLacks (open_causes config.blocks config.frames ++ bad_count MAX_WORKERS workers ∷ []) result }
         ensures prepared { IfOk result (λ made. (made.blocks ≡ config.blocks) × (made.frames ≡ config.frames) × (made.workers ≡ workers)) }

@@ -55,7 +55,7 @@ macro_rules! procedures {
 /// The longest sleep of a worker, in milliseconds.
 const MILLISECONDS_OF_SLEEP: u64 = 50;
 
-/// A hook that is called for each entry before its procedure, and where a worker sleeps.
+/// A hook that is called for each entry before its procedure, and that puts an idle worker to sleep.
 pub trait Gate {
     /// The entry with this sequence number was taken. Called without the lock.
     fn entered(&self, seq: u64);

@@ -100,7 +100,7 @@ pub flags_counted : (late : Set) (k : ℕ) (now : Bool) → sets.len (with_flag 
 flags_counted late k true = len-insert nat_cmp_total late k
 flags_counted late k false = len-remove nat_cmp_total late k
 
--- each entry has its flag in the set, where each key stands once
+-- each entry has its flag in the set, if each key occurs once
 pub flags_of_each : (es : List (ℕ × Stored)) → IsDistinct nat_eq (keys_of es) → All (λ (e : ℕ × Stored). e.1.unreachable ≡ contains (flagged es) e.0) es
 flags_of_each es once i d lt =
     let e = get_or es i d in

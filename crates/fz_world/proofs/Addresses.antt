@@ -45,7 +45,7 @@ by_slots old new first second BySlots by same one other there at there_too at_to
 pub slot_stands : (frames : List (List ℕ)) (slot : Slot) → IsFalse (lacks_slot frames slot) → first_cause (slot_causes frames slot) ≡ None
 slot_stands frames slot there = ap (λ b. if b then Some BadSlot else None) there
 
--- no cause of a start is want of memory
+-- no cause of a start is out of memory
 start_has_memory : (objects : Map Object) (address : ℕ) (r : Refusal) → first_cause (start_causes objects address) ≡ Some r → r ≡ NoMemory → ⊥
 start_has_memory objects address r h is = by (no_object objects address).0 (no_start objects address).0 h
   where
@@ -58,7 +58,7 @@ start_has_memory objects address r h is = by (no_object objects address).0 (no_s
     by false true h = true≢false (ap other (h ∙ ap Some is))
     by false false h = true≢false (ap other (h ∙ ap Some is))
 
--- a refusal that is handed on by a call that may lack memory is judged as it was
+-- a refusal that is returned as it is by a call that may lack memory is judged as it was
 judged_or_lacks_on : {A : Type 0} → (causes : Causes) (reply : Result A Refusal) (r : Refusal) → first_cause causes ≡ Some r → IsErrAnd reply (λ x. x ≡ r) → IsJudgedOrLacks causes reply
 judged_or_lacks_on causes (Err x) r h is = inl (h ∙ ap Some (sym is))
 judged_or_lacks_on causes (Ok answer) r h is = absurd is

@@ -1,4 +1,4 @@
--- A reply of a world is a step of the model from each state that the world stands for.
+-- A reply of a world is a step of the model from each state that the world represents.
 use Rattle.std.proofs.Common.{◌≡◌, ◌⊎◌, ◌||◌, ◌++◌, append_assoc, ℕ, Bool, true, false, if◌then◌else◌, [], ◌∷◌, None, Some, Result, Ok, Err, IsErrAnd, refl, sym, ap, subst, ◌∙◌, inl, inr, ⊎_elim, IsTrue, IsFalse, Any}
 use Rattle.std.proofs.lemmas.Bool.{cond-true, cases_eq, ne_eqb, both_ways}
 use Rattle.std.specs.FinSet.{contains}
@@ -46,7 +46,7 @@ pub hands_on : (old : WorldView) (e : Event) (reply : Result (Answer e) Refusal)
 hands_on old e (Err x) r h is = does_refused old old e x (inl (h ∙ ap Some (sym is))) refl
 hands_on old e (Ok answer) r h is = absurd is
 
--- a refusal that is handed on is judged as it was
+-- a refusal that is returned as it is is judged as it was
 pub judged_on : {A : Type 0} → (causes : Causes) (reply : Result A Refusal) (r : Refusal) → first_cause causes ≡ Some r → IsErrAnd reply (λ x. x ≡ r) → IsJudgedBy causes reply
 judged_on causes (Err x) r h is = h ∙ ap Some (sym is)
 judged_on causes (Ok answer) r h is = absurd is

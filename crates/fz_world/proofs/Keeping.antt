@@ -32,7 +32,7 @@ pub note_keeps : (objects : Map Object) (m : Marking) (noted : Set) (page : ℕ)
 note_keeps objects m noted page clean a scanned off =
     clean a scanned (not_noted objects noted a (λ p t w. both_ways (is_on_noted objects (insert noted page) a) off (word_noted objects (insert noted page) p a (still_in noted page p t) w)))
 
--- words none of which stands at the place
+-- words none of which is at the place
 fill_none : (place value a : ℕ) (ws : List ℕ) → ((i : ℕ) → i < length ws → a + i ≢ place) → fill (λ x. x == place) value a ws ≡ ws
 fill_none place value a [] apart = refl
 fill_none place value a (w ∷ ws) apart =

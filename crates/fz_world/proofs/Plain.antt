@@ -70,7 +70,7 @@ module _ (old new : State) (object : ℕ) (none : HasNoUnreachable old) where
 pub all_held : (s : State) → s.taken ≡ length s.queue → unfinished s ≡ s.held
 all_held s taken = ap (λ (es : List Entry). s.held ++ es) (drop_all s.taken s.queue (omega (arith, taken))) ∙ append-nil s.held
 
--- ---- where a world's limits leave room, the finalizers refuse for want of memory alone
+-- ---- if a world's limits leave room, the finalizers refuse only if an allocation fails
 
 has_place : {X : Type 0} → (m : Map X) (key : ℕ) → (full m key).0 ≡ false → lacks_place m key ≡ false
 has_place m key free = by (contains_key m key) free

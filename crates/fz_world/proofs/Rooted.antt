@@ -38,7 +38,7 @@ module _ (c : Core) where
     λ r. (h.members a).1 (inr (is_here a r)),
   )
 
--- ---- objects of registrations and of held entries stand in the heap
+-- ---- objects of registrations and of held entries are in the heap
 
 module _ (c : Core) (sound : AreSound c.objects c.registrations c.next_number c.queue c.held) where
   pub registered_here : (a : ℕ) → IsTrue (contains_key c.registrations a) → IsTrue (contains_key c.objects a)

@@ -26,7 +26,7 @@ module _ (c : Core) (sound : AreSound c.objects c.registrations c.next_number c.
       none some.1 (contains_at c.held some.0 some.1 some.2) (ap (λ (d : Entry). d.seq) (sym (one_entry e some.1 some.3)) ∙ sound.numbered number e at))
   told_kept (Some e) there = ap (slice_get c.queue) (sym there.1) ∙ sound.held_queued e there.0
 
-  -- what is told stands in the queue, and what isn't told is held no more
+  -- what is returned is in the queue, and what isn't returned is held no more
   pub told : (forgotten : ℕ) (found : Option Entry) → (forgotten ≤ number → found ≡ slice_get c.queue number)
       → (number < forgotten → MatchOption found ((e : Entry) → Contains c.held e → e.seq ≢ number) (λ e. Contains c.held e × (e.seq ≡ number))) → IsTold found
   told forgotten found shown kept = ⊎_elim (λ early. told_kept found (kept early)) (λ late. told_shown found (shown late)) (cases_lt number forgotten)
@@ -35,13 +35,13 @@ module _ (c : Core) (sound : AreSound c.objects c.registrations c.next_number c.
   abbrev IsNextOf : Option Entry → Type 0
   IsNextOf found = MatchOption found ((e : Entry) → Contains c.held e → e.seq < from) (IsNextHeld c.held from)
 
-  -- the next held entry stands in the queue, at its number
+  -- the next held entry is in the queue, at its number
   pub next_queued : (found : Option Entry) → IsNextOf found → IfSome found (λ e. slice_get c.queue e.seq ≡ Some e)
   unfolding AreSound
   next_queued None none = tt
   next_queued (Some e) next = sound.held_queued e next.member
 
-  -- what is held stands in no place from `from` on before the next held entry
+  -- no place from `from` on before the next held entry has a held one
   apart : (found : Option Entry) → IsNextOf found → (k : ℕ) → from ≤ k → IfSome found (λ next. k < next.seq) → (e : Entry) → Contains c.held e → e.seq ≡ k → ⊥
   apart None none k after before e held at = let less = none e held in omega (arith, less, at, after)
   apart (Some n) next k after before e held at =

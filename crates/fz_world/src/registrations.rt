@@ -121,9 +121,10 @@ pub(crate) fn enroll(
 
 #[tactic(auto, using(fz_model::proofs::Judged::judged_more, fz_model::proofs::Judged::judged_err, crate::proofs::Whole::world_registered, crate::proofs::Whole::world_removed, crate::proofs::Does::start_refused, crate::proofs::Does::does_refused, crate::proofs::Does::does_accepted))]
 impl World {
-    /// Registers a finalizer for the object at the slot's word, as `GC_register_finalizer` or its `_ignore_self` or `_no_order` variant does. A pass queues
-    /// ready finalizers by rank, then address. A word that is zero or outside the heap has no effect, and the result is `Outside`. Takes time proportional to
-    /// the heap for the first registration in a world.
+    /// Registers a finalizer for the object at the slot's word, as `GC_register_finalizer` or its `_ignore_self` or `_no_order` variant does, in place of the
+    /// registration that it may have. Returns the registration number and what was replaced. A word that is zero or outside the heap is no error: nothing
+    /// changes, and the result is `Outside`. A pass queues ready finalizers by rank, then address. Takes time proportional to the heap for the first
+    /// registration in a world.
     ///
     /// Fails with, in this order: `BadSlot`, `NotPointer`, `NotStart`, `Exhausted` after 2^48 numbers, `TableFull` for a 65,537th object, `NoMemory`.
     pub fn register(

@@ -221,7 +221,7 @@ impl World {
         }
     }
 
-    /// The first address, from one on, at which the table has an entry.
+    /// The first address at or after `from` at which the table has an entry.
     fn first_from(&self, table: Table, from: Addr) -> Option<Addr>
         ensures { MatchOption result (HasNoneFrom self.now.blocks (has_row self.now.core table) from) (IsFirstFrom self.now.blocks (has_row self.now.core table) from) }
     {

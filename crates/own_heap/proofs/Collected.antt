@@ -89,7 +89,7 @@ fields_left old mid new marked kept left place k = by (marked (address_of place)
     by true is = inr (⊎_elim (λ same. inl (ap field is ∙ same)) (λ none. inr (ap field is ∙ none)) (kept place k))
     by false is = inl (ap field is)
 
--- a record whose fields are kept stands
+-- a record whose fields are kept is there
 pub fields_stand : (old new : List (Option Record)) → AreFieldsKept old new → (a : ℕ) → IsTrue (contains_key (objects_of old) a) → IsTrue (contains_key (objects_of new) a)
 fields_stand old new kept a here = at (get (objects_of old) a) refl here
   where

@@ -45,7 +45,7 @@ use Rattle.fz_model.proofs.Lists.{filter_at, contains_at}
 use Rattle.fz_model.specs.Events.{same_entry}
 use Rattle.fz_finalizers.proofs.Taking.{next_waits}
 
--- the objects that stand in one map stand in the other
+-- the objects of one map are in the other
 abbrev pub AreKept : Map Object → Map Object → Type 0
 AreKept old new = (a : ℕ) → IsTrue (contains_key old a) → IsTrue (contains_key new a)
 
@@ -119,7 +119,7 @@ set_keeps slots place f a here = ap is_some (get-objects new a) ∙ at (place_of
     at (Some i) is h =
         ⊎_elim (λ same. written i (get_or slots i None) same refl h) (λ far. ap (λ s. is_some (option_map object_of s)) (get_or-set_other slots place i (option_map f (slot slots place)) None far) ∙ h) (cases_eq i place)
 
--- a record that stands is an object
+-- a record that is there is an object
 pub stands_object : (slots : List (Option Record)) (place : ℕ) → IsTrue (is_some (slot slots place)) → IsTrue (contains_key (objects_of slots) (address_of place))
 stands_object slots place here = at (slot slots place) refl here
   where
@@ -260,7 +260,7 @@ finish_sound objects old new entry (Err e) refused follows sound = subst (IsSoun
 
 -- ---- a pass
 
--- what stands behind a place of two lists
+-- what comes after a place of two lists
 drop_cases : (n : ℕ) (xs ys : List Entry) (e : Entry) → Contains (drop n (xs ++ ys)) e → Contains (drop n xs) e ⊎ Contains ys e
 drop_cases zero xs ys e here = Contains-append_cases xs ys e here
 drop_cases (suc n) [] ys e here =
@@ -387,11 +387,11 @@ module _ (E : Type 0) (place : ℕ → Option ℕ) (value : Map Object → ℕ �
       let here = ap is_some picked.here in
       kept_stands p.obj (registered_kept p.obj picked.registration picked.unreachable.registered here) here
 
-  -- what came stands
+  -- what came is there
   came_stands : (e : Entry) → Contains (entries_of pass first d.picks) e → IsTrue (contains_key new.objects e.obj)
   came_stands e came = let from = entries_have pass first d.picks e came in subst (λ a. IsTrue (contains_key new.objects a)) from.2 (picked_kept from.0 from.1)
 
-  -- what isn't finished stands then, where what wasn't before was found
+  -- what isn't finished is there then, if what wasn't before was found
   pub passed_held : (s t : State) → queue ≡ s.queue → t.queue ≡ new_queue → t.taken ≡ s.taken → t.held ≡ s.held → ((e : Entry) → Contains (unfinished s) e → e.obj ≢ 0 → IsTrue (found e.obj) × IsTrue (contains_key old.objects e.obj)) → (e : Entry) → Contains (unfinished t) e → e.obj ≢ 0 → IsTrue (contains_key new.objects e.obj)
   passed_held s t was is taken held all e here some =
       let come = entries_of pass first d.picks in

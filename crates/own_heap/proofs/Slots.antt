@@ -1,4 +1,4 @@
--- Which object stands at an address, and which object has a word.
+-- Which object is at an address, and which object has a word.
 use Rattle.std.proofs.Common.{◌≡◌, ◌≢◌, ℕ, zero, suc, ◌+◌, ◌-◌, ◌*◌, ◌/◌, ◌%◌, ◌<◌, ◌≤◌, ◌==◌, ◌&&◌, ◌⊎◌, inl, inr, Bool, true, false, cond, List, [], ◌∷◌, get_or, length, Option, Some, None, option_map, nat_le, nat_cmp, refl, sym, ap, ◌∙◌, subst, arith, IsTrue}
 use Rattle.std.proofs.lemmas.Bool.{eq-eqb, eqb-true, le-leb, leb-true, and_parts, and_from, both_ways, cases_lt}
 use Rattle.std.proofs.lemmas.List.{get_or_past}
@@ -64,7 +64,7 @@ entry_at q p (suc i) (Some r ∷ slots) is =
     ap (λ b. cond b (Some (object_of r)) (finmap.find nat_cmp q (object_entries (p + 1) slots))) (other_key q (address_of p) apart)
     ∙ entry_at q (p + 1) i slots (omega (arith, is))
 
--- the object of a place, if a record stands there
+-- the object of a place, if there is a record
 abbrev pub object_in : List (Option Record) → Option ℕ → Option Object
 object_in slots None = None
 object_in slots (Some i) = option_map object_of (get_or slots i None)
@@ -179,7 +179,7 @@ pointed_among slots word a is = at (get (objects_of slots) (start_of word)) refl
     at None here e = absurd (none-some a e)
     at (Some o) here e = subst (IsAmong (length slots)) (same_Some (start_of word) a e) (among_at slots (start_of word) o (stands slots (start_of word) o here))
 
--- what a word points to stands
+-- what a word points to is there
 pub pointed_stands : (slots : List (Option Record)) (word a : ℕ) → points (objects_of slots) word ≡ Some a → IsTrue (contains_key (objects_of slots) a)
 pointed_stands slots word a is = at (get (objects_of slots) (start_of word)) refl (sym (points_is slots word) ∙ is)
   where

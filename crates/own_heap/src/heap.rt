@@ -62,7 +62,7 @@ impl Heap {
         })
     }
 
-    /// The record, or `None` if it was swept.
+    /// The record at this index, or `None` if there is none. If the record with this id was swept, it may be a later one.
     pub fn get(&self, id: RecordId) -> Option<&Record>
         ensures { option_copied result ≡ slot self.now.records.slots.items id.place }
     {
@@ -70,7 +70,7 @@ impl Heap {
     }
 
     /// Whether the record exists.
-    pub fn stands(&self, id: RecordId) -> bool
+    pub fn contains(&self, id: RecordId) -> bool
         ensures { result ≡ is_some (slot self.now.records.slots.items id.place) }
     {
         self.get(id).is_some()
@@ -91,7 +91,7 @@ impl Heap {
         Some(RecordId { place: at as u32 })
     }
 
-    /// Writes a field of a record. Does nothing if the record was swept.
+    /// Writes a field of the record at this index. Does nothing if there is none. If the record with this id was swept, it may be a later one.
     pub fn set(&mut self, id: RecordId, field: usize, value: Field)
         requires { field < FIELDS }
         ensures set { self.new.records.slots.items ≡ with_field_at id.place field value self.old.records.slots.items }

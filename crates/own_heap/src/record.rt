@@ -16,7 +16,8 @@ pub const SPACING: u64 = 8;
 /// The first number of a link that lies in no record. All addresses of fields are smaller.
 pub const OUTSIDE: Addr = 0x8000_0000_0000_0000;
 
-/// Names a record by its index in the heap.
+/// Names a record by its index in the heap. Once the record is swept, `make` may give the index to another record, and the id then names that one. So use an
+/// id only while roots reach its record, or give records births.
 #[derive(Clone, Copy, Debug, PartialEq, Eq)]
 pub struct RecordId {
     pub(crate) place: u32,

@@ -29,7 +29,7 @@ const HAND: u64 = 1;
 /// A weak cache that allocates its objects: each is cached under its key until a collection finds it unreachable.
 ///
 /// The list is an object with one word for each key. It is pointer-free, so it retains nothing. Each used word has a short link, so a collection clears it
-/// when its target is unreachable.
+/// when its target is unreachable. It never calls `World::forget`, so each queued entry takes 56 bytes for good: a cache that runs for long has to call it.
 #[derive(Drop)]
 pub struct Cache {
     world: World,
@@ -76,7 +76,8 @@ impl Cache {
         Ok(())
     }
 
-    /// Caches the current object under the key. Fails if the link from the list can't be registered.
+    /// Caches the current object under the key. Fails with, in this order: `OutsideObject` if the key isn't below the number of keys, `NotPointer` if there is no
+    /// current object, `TableFull`, `NoMemory`.
     pub fn put(&mut self, key: u64) -> Result<(), Refusal>
         ensures judged { IsJudgedOrLacks (causes self.old.world.core (Make (Link Short (place_at 0 LIST key) (slot_at 0 HAND)))) result }
         ensures refused { OnErr result (self.new ≡ self.old) }

@@ -86,7 +86,7 @@ fn condemns_row(map: &mut BlockMap, count: u64) -> bool {
 }
 
 /// Whether a step on a block that the map has returns the expected result.
-fn answers_in(map: &mut BlockMap, block: u64, step: Step) -> bool {
+fn is_right_in(map: &mut BlockMap, block: u64, step: Step) -> bool {
     if block >= map.blocks() {
         return false;
     }
@@ -114,14 +114,14 @@ fn object_at(map: &BlockMap, start: Addr) -> Option<(u64, ObjKind)> {
 }
 
 /// Whether a step returns the expected result.
-fn answers(map: &mut BlockMap, step: Step) -> bool {
+fn is_right(map: &mut BlockMap, step: Step) -> bool {
     match step {
         Claim(size, kind, want) => map.claim(size, kind) == want,
         ClaimSome(count, size, kind) => claims(map, count, size, kind),
         ClaimRow(count, size, kind) => claims_row(map, count, size, kind),
         Condemn(start, want) => condemns(map, start) == want,
         CondemnRow(count) => condemns_row(map, count),
-        CondemnIn(block, _, _) | Sweep(block) | StartsIn(block, _) => answers_in(map, block, step),
+        CondemnIn(block, _, _) | Sweep(block) | StartsIn(block, _) => is_right_in(map, block, step),
         Lies(word, want) => cell_of(map, word) == want,
         Starts(word, want) => object_at(map, word) == want,
         Condemned(want) => map.condemned() == want,
@@ -133,7 +133,7 @@ fn answers(map: &mut BlockMap, step: Step) -> bool {
 /// The index of the first step that returns another result.
 fn first_wrong(map: &mut BlockMap, steps: &[Step]) -> Option<usize> {
     for (place, step) in steps.iter().enumerate() {
-        if !answers(map, *step) {
+        if !is_right(map, *step) {
             return Some(place);
         }
     }
@@ -146,7 +146,7 @@ fn must_run(rt: &impl Abort, map: &mut BlockMap, steps: &[Step]) {
 }
 
 /// The same of a new map with this many blocks.
-pub(crate) fn must_answer(rt: &impl Abort, alloc: Global, blocks: u64, steps: &[Step]) {
+pub(crate) fn must_run_new(rt: &impl Abort, alloc: Global, blocks: u64, steps: &[Step]) {
     let mut map = BlockMap::new(alloc, blocks).expect(rt, "memory");
     must_run(rt, &mut map, steps);
 }

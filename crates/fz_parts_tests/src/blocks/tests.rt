@@ -4,13 +4,13 @@ use crate::blocks::calls::Step::{
     Blocks, Claim, ClaimRow, ClaimSome, Condemn, CondemnIn, CondemnRow, Condemned, Lies, Start,
     Starts, StartsIn, Sweep,
 };
-use crate::blocks::calls::{must_answer, must_refuse};
+use crate::blocks::calls::{must_refuse, must_run_new};
 use fz_model::ObjKind::{Atomic, Scanned};
 use fz_model::{BLOCK_WORDS, MAX_BLOCKS, Refusal};
 
 #[test]
 fn a_class_fills_a_block_and_then_the_next(rt: HostRuntime) {
-    must_answer(
+    must_run_new(
         &rt,
         rt.alloc(),
         2,
@@ -27,7 +27,7 @@ fn a_class_fills_a_block_and_then_the_next(rt: HostRuntime) {
 
 #[test]
 fn another_class_takes_the_next_bare_block(rt: HostRuntime) {
-    must_answer(
+    must_run_new(
         &rt,
         rt.alloc(),
         3,
@@ -48,7 +48,7 @@ fn another_class_takes_the_next_bare_block(rt: HostRuntime) {
 
 #[test]
 fn the_least_free_cell_is_claimed_again(rt: HostRuntime) {
-    must_answer(
+    must_run_new(
         &rt,
         rt.alloc(),
         2,
@@ -67,7 +67,7 @@ fn the_least_free_cell_is_claimed_again(rt: HostRuntime) {
 
 #[test]
 fn a_block_without_cells_takes_another_class(rt: HostRuntime) {
-    must_answer(
+    must_run_new(
         &rt,
         rt.alloc(),
         1,
@@ -89,7 +89,7 @@ fn a_block_without_cells_takes_another_class(rt: HostRuntime) {
 
 #[test]
 fn words_lie_in_cells(rt: HostRuntime) {
-    must_answer(
+    must_run_new(
         &rt,
         rt.alloc(),
         2,
@@ -113,7 +113,7 @@ fn words_lie_in_cells(rt: HostRuntime) {
 #[test]
 fn sizes_and_blocks_have_limits(rt: HostRuntime) {
     must_refuse(&rt, rt.alloc(), &[0, MAX_BLOCKS + 1, u64::MAX]);
-    must_answer(
+    must_run_new(
         &rt,
         rt.alloc(),
         1,
@@ -130,7 +130,7 @@ fn sizes_and_blocks_have_limits(rt: HostRuntime) {
 #[test]
 fn all_cells_are_claimed_in_order_and_again(rt: HostRuntime) {
     let words = BLOCK_WORDS * MAX_BLOCKS;
-    must_answer(
+    must_run_new(
         &rt,
         rt.alloc(),
         MAX_BLOCKS,
@@ -147,7 +147,7 @@ fn all_cells_are_claimed_in_order_and_again(rt: HostRuntime) {
 
 #[test]
 fn starts_come_by_address(rt: HostRuntime) {
-    must_answer(
+    must_run_new(
         &rt,
         rt.alloc(),
         70,
@@ -170,7 +170,7 @@ fn starts_come_by_address(rt: HostRuntime) {
 
 #[test]
 fn a_long_object_takes_the_least_run(rt: HostRuntime) {
-    must_answer(
+    must_run_new(
         &rt,
         rt.alloc(),
         140,
@@ -202,7 +202,7 @@ fn a_long_object_takes_the_least_run(rt: HostRuntime) {
 
 #[test]
 fn a_run_crosses_the_words_of_a_set(rt: HostRuntime) {
-    must_answer(
+    must_run_new(
         &rt,
         rt.alloc(),
         80,
@@ -223,7 +223,7 @@ fn a_run_crosses_the_words_of_a_set(rt: HostRuntime) {
 
 #[test]
 fn condemned_cells_are_counted_and_swept(rt: HostRuntime) {
-    must_answer(
+    must_run_new(
         &rt,
         rt.alloc(),
         8,
@@ -249,7 +249,7 @@ fn condemned_cells_are_counted_and_swept(rt: HostRuntime) {
 
 #[test]
 fn a_claim_sweeps_its_blocks_alone(rt: HostRuntime) {
-    must_answer(
+    must_run_new(
         &rt,
         rt.alloc(),
         4,
@@ -270,7 +270,7 @@ fn a_claim_sweeps_its_blocks_alone(rt: HostRuntime) {
 
 #[test]
 fn objects_of_a_block_are_condemned_by_bits(rt: HostRuntime) {
-    must_answer(
+    must_run_new(
         &rt,
         rt.alloc(),
         4,

@@ -42,7 +42,7 @@ fn frees(heap: &mut Heap, start: Addr) -> bool {
 }
 
 /// Whether a step returns the expected result.
-fn answers(heap: &mut Heap, step: Step) -> bool {
+fn is_right(heap: &mut Heap, step: Step) -> bool {
     match step {
         Alloc(size, kind, want) => heap.alloc(size, kind) == want,
         Free(start, want) => frees(heap, start) == want,
@@ -59,7 +59,7 @@ fn answers(heap: &mut Heap, step: Step) -> bool {
 /// The index of the first step that returns another result.
 fn first_wrong(heap: &mut Heap, steps: &[Step]) -> Option<usize> {
     for (place, step) in steps.iter().enumerate() {
-        if !answers(heap, *step) {
+        if !is_right(heap, *step) {
             return Some(place);
         }
     }
@@ -72,7 +72,7 @@ pub(crate) fn must_run(rt: &impl Abort, heap: &mut Heap, steps: &[Step]) {
 }
 
 /// The same of a new heap with this many blocks.
-pub(crate) fn must_answer(rt: &impl Abort, alloc: Global, blocks: u64, steps: &[Step]) {
+pub(crate) fn must_run_new(rt: &impl Abort, alloc: Global, blocks: u64, steps: &[Step]) {
     let mut heap = Heap::new(alloc, blocks).expect(rt, "memory");
     must_run(rt, &mut heap, steps);
 }

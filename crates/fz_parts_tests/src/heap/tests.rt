@@ -4,7 +4,7 @@ use crate::equal::must_be;
 use crate::heap::calls::Step::{
     Alloc, Blocks, Condemned, Facts, Free, Object, Read, Resolve, Write,
 };
-use crate::heap::calls::{must_answer, must_refuse, must_run};
+use crate::heap::calls::{must_refuse, must_run, must_run_new};
 use fz_heap::Heap;
 use fz_model::ObjKind::{Atomic, Scanned};
 use fz_model::Refusal::{BadSize, NoSpace, NotPointer, OutsideObject};
@@ -14,7 +14,7 @@ use std::test::Fail;
 
 #[test]
 fn births_count_the_objects(rt: HostRuntime) {
-    must_answer(
+    must_run_new(
         &rt,
         rt.alloc(),
         2,
@@ -32,7 +32,7 @@ fn births_count_the_objects(rt: HostRuntime) {
 
 #[test]
 fn one_object_fills_a_block(rt: HostRuntime) {
-    must_answer(
+    must_run_new(
         &rt,
         rt.alloc(),
         1,
@@ -49,7 +49,7 @@ fn one_object_fills_a_block(rt: HostRuntime) {
 
 #[test]
 fn an_object_takes_neighbouring_blocks(rt: HostRuntime) {
-    must_answer(
+    must_run_new(
         &rt,
         rt.alloc(),
         3,
@@ -71,7 +71,7 @@ fn an_object_takes_neighbouring_blocks(rt: HostRuntime) {
 
 #[test]
 fn a_new_object_is_zero_where_another_was(rt: HostRuntime) {
-    must_answer(
+    must_run_new(
         &rt,
         rt.alloc(),
         1,
@@ -101,7 +101,7 @@ fn a_new_object_is_zero_where_another_was(rt: HostRuntime) {
 
 #[test]
 fn words_are_read_where_they_were_written(rt: HostRuntime) {
-    must_answer(
+    must_run_new(
         &rt,
         rt.alloc(),
         1,
@@ -131,7 +131,7 @@ fn words_are_read_where_they_were_written(rt: HostRuntime) {
 
 #[test]
 fn objects_come_by_address(rt: HostRuntime) {
-    must_answer(
+    must_run_new(
         &rt,
         rt.alloc(),
         4,
@@ -159,7 +159,7 @@ fn objects_come_by_address(rt: HostRuntime) {
 #[test]
 fn the_largest_heap_begins_without_objects(rt: HostRuntime) {
     must_refuse(&rt, rt.alloc(), &[0, MAX_BLOCKS + 1]);
-    must_answer(
+    must_run_new(
         &rt,
         rt.alloc(),
         MAX_BLOCKS,
@@ -189,7 +189,7 @@ fn one_in_each_block(heap: &mut Heap) -> Result<bool, Refusal> {
 const LAST: Addr = 65_536 + BLOCK_WORDS * MAX_BLOCKS - 1;
 
 #[test]
-fn an_object_stands_in_each_block(rt: HostRuntime) -> Result<(), Fail> {
+fn each_block_has_an_object(rt: HostRuntime) -> Result<(), Fail> {
     let mut heap = Heap::new(rt.alloc(), MAX_BLOCKS)?;
     must_be(
         &rt,

@@ -102,7 +102,7 @@ fn register(rt: &impl Abort, all: &mut All, object: u64, random: &mut Random) {
         rank,
     };
     let id = id_of(rt, all, object);
-    if all.runtime.heap().stands(id) {
+    if all.runtime.heap().contains(id) {
         all.runtime.register(id, finalizer).expect(rt, "the same");
     }
 }
@@ -116,7 +116,7 @@ fn link(rt: &impl Abort, all: &mut All, object: u64, to: u64, random: &mut Rando
         .expect(rt, "a link");
     let id = id_of(rt, all, object);
     let target = id_of(rt, all, to);
-    if all.runtime.heap().stands(target) {
+    if all.runtime.heap().contains(target) {
         all.runtime
             .link(kind, id.word(field as usize % FIELDS), target)
             .expect(rt, "the same");
@@ -165,10 +165,10 @@ fn take_same(rt: &impl Abort, all: &mut All, taken: u64) -> u64 {
 }
 
 /// Both have the same objects.
-fn stand_same(rt: &impl Abort, all: &All) {
+fn have_same_objects(rt: &impl Abort, all: &All) {
     for (start, id) in all.starts.iter().zip(all.ids.iter()) {
-        let stands = all.world.object(*start).is_some();
-        must_be(rt, all.runtime.heap().stands(*id), stands, "an object");
+        let exists = all.world.object(*start).is_some();
+        must_be(rt, all.runtime.heap().contains(*id), exists, "an object");
     }
 }
 
@@ -186,7 +186,7 @@ fn collect_same(rt: &impl Abort, alloc: Global, seed: u64) -> u64 {
     for _ in 0..6 {
         let passed = all.world.collect().expect(rt, "a collection");
         must_be(rt, all.runtime.collect().picked, passed.picked, "as many");
-        stand_same(rt, &all);
+        have_same_objects(rt, &all);
         taken = take_same(rt, &mut all, taken);
     }
     taken

@@ -34,7 +34,7 @@ enum Step {
     /// Finishes the entry that was taken last.
     Finish,
     /// Whether a record exists.
-    Stands(usize, bool),
+    Exists(usize, bool),
 }
 
 /// A heap, its records by number, those that were given a finalizer or a cleanup, and the entries that were taken and not finished.
@@ -84,7 +84,7 @@ fn register(rt: &impl Abort, records: &mut Records, record: usize, procedure: u6
         rank: 0,
     };
     let id = id_of(rt, records, record);
-    if records.runtime.heap().stands(id) {
+    if records.runtime.heap().contains(id) {
         records
             .runtime
             .register(id, finalizer)
@@ -110,7 +110,7 @@ fn cleanup_of(
 /// Adds a cleanup to a record.
 fn attach(rt: &impl Abort, records: &mut Records, record: usize, cleanup: Cleanup) {
     let id = id_of(rt, records, record);
-    if records.runtime.heap().stands(id) {
+    if records.runtime.heap().contains(id) {
         records
             .runtime
             .add_cleanup(id, cleanup)
@@ -122,7 +122,7 @@ fn attach(rt: &impl Abort, records: &mut Records, record: usize, cleanup: Cleanu
 /// Keeps all that was given a finalizer or a cleanup and still exists.
 fn close(rt: &impl Abort, records: &mut Records) {
     for id in records.furnished.iter().copied() {
-        if records.runtime.heap().stands(id) {
+        if records.runtime.heap().contains(id) {
             records.runtime.add_root(id).expect(rt, "memory");
         }
     }
@@ -185,10 +185,10 @@ fn carry_out(rt: &impl Abort, records: &mut Records, step: Step) {
             take_this(rt, records, (procedure, number, record));
         }
         Step::Finish => finish(rt, records),
-        Step::Stands(record, stands) => {
+        Step::Exists(record, exists) => {
             let id = id_of(rt, records, record);
-            let found = records.runtime.heap().stands(id);
-            must_be(rt, found, stands, "whether it stands");
+            let found = records.runtime.heap().contains(id);
+            must_be(rt, found, exists, "whether it exists");
         }
     }
 }
@@ -199,14 +199,14 @@ const TWO_OF_ONE_OBJECT: [Step; 13] = [
     Step::Attach(0, Long, 1, None, 0),
     Step::Attach(0, Long, 2, None, 0),
     Step::Collect(2),
-    Step::Stands(0, false),
+    Step::Exists(0, false),
     Step::Take(1, 0, None),
     Step::Finish,
     Step::Take(2, 1, None),
     Step::Finish,
     Step::Make,
     Step::Collect(0),
-    Step::Stands(1, false),
+    Step::Exists(1, false),
     Step::Cancel(0, false),
 ];
 
@@ -217,15 +217,15 @@ const SHORT_BEFORE_AND_LONG_AFTER_A_FINALIZER: [Step; 15] = [
     Step::Attach(0, Short, 1, None, 0),
     Step::Attach(0, Long, 2, None, 0),
     Step::Collect(2),
-    Step::Stands(0, true),
+    Step::Exists(0, true),
     Step::Take(1, 1, None),
     Step::Finish,
     Step::Take(7, 0, Some(0)),
     Step::Collect(0),
     Step::Finish,
-    Step::Stands(0, true),
+    Step::Exists(0, true),
     Step::Collect(1),
-    Step::Stands(0, false),
+    Step::Exists(0, false),
     Step::Take(2, 2, None),
 ];
 
@@ -237,12 +237,12 @@ const DATA_LEADS_TO_THE_OBJECT: [Step; 12] = [
     Step::Attach(0, Long, 1, Some(1), 0),
     Step::Collect(0),
     Step::Collect(0),
-    Step::Stands(0, true),
+    Step::Exists(0, true),
     Step::Cancel(0, true),
     Step::Cancel(0, false),
     Step::Collect(0),
-    Step::Stands(0, false),
-    Step::Stands(1, false),
+    Step::Exists(0, false),
+    Step::Exists(1, false),
 ];
 
 /// A finalizer brings the object back: the short one came, and the long one comes at last.
@@ -258,10 +258,10 @@ const BROUGHT_BACK: [Step; 16] = [
     Step::Root(0),
     Step::Finish,
     Step::Collect(0),
-    Step::Stands(0, true),
+    Step::Exists(0, true),
     Step::Unroot,
     Step::Collect(1),
-    Step::Stands(0, false),
+    Step::Exists(0, false),
     Step::Take(2, 1, None),
 ];
 
@@ -276,10 +276,10 @@ const CLOSED: [Step; 15] = [
     Step::Make,
     Step::Close,
     Step::Collect(0),
-    Step::Stands(0, true),
-    Step::Stands(1, true),
-    Step::Stands(2, true),
-    Step::Stands(3, false),
+    Step::Exists(0, true),
+    Step::Exists(1, true),
+    Step::Exists(2, true),
+    Step::Exists(3, false),
     Step::Collect(0),
     Step::Cancel(0, true),
 ];
@@ -297,7 +297,7 @@ const NUMBERS_AND_RANKS: [Step; 12] = [
     Step::Take(2, 1, None),
     Step::Take(3, 3, None),
     Step::Take(4, 2, None),
-    Step::Stands(1, false),
+    Step::Exists(1, false),
 ];
 
 /// The worked rows.

@@ -29,14 +29,14 @@ enum Step {
     /// Takes the next entry, which is of this record and has this procedure, and finishes it.
     Run(usize, u64),
     /// Whether a record exists.
-    Stands(usize, bool),
+    Exists(usize, bool),
     /// The kind and the key of the ephemeron of a field, if it is one.
     Key(usize, usize, Option<(LinkKind, usize)>),
     /// Which record a field hides, if any.
     Hides(usize, usize, Option<usize>),
 }
 
-use Step::{Collect, Hide, Hides, Key, Keyed, Make, Refer, Register, Run, Slot, Stands};
+use Step::{Collect, Exists, Hide, Hides, Key, Keyed, Make, Refer, Register, Run, Slot};
 
 /// How many records the frame consists of.
 const FRAMES: usize = 3;
@@ -94,7 +94,7 @@ fn key(
 ) {
     let word = id_of(rt, stage, record).word(field % FIELDS);
     let key = id_of(rt, stage, of);
-    if stage.runtime.heap().stands(key) {
+    if stage.runtime.heap().contains(key) {
         stage
             .runtime
             .ephemeron(kind, word, key)
@@ -111,7 +111,7 @@ fn register(rt: &impl Abort, stage: &mut Stage, record: usize, procedure: u64) {
         rank: 0,
     };
     let id = id_of(rt, stage, record);
-    if stage.runtime.heap().stands(id) {
+    if stage.runtime.heap().contains(id) {
         stage.runtime.register(id, finalizer).expect(rt, "memory");
     }
 }
@@ -177,9 +177,9 @@ fn carry_out(rt: &impl Abort, stage: &mut Stage, step: Step) {
         Register(record, procedure) => register(rt, stage, record, procedure),
         Collect(picked) => must_be(rt, stage.runtime.collect().picked, picked, "picked"),
         Run(record, procedure) => run(rt, stage, record, procedure),
-        Stands(record, stands) => {
-            let found = stage.runtime.heap().stands(id_of(rt, stage, record));
-            must_be(rt, found, stands, "whether it stands");
+        Exists(record, exists) => {
+            let found = stage.runtime.heap().contains(id_of(rt, stage, record));
+            must_be(rt, found, exists, "whether it exists");
         }
         Key(_, _, _) | Hides(_, _, _) => look(rt, stage, step),
     }
@@ -204,11 +204,11 @@ const A_VALUE_LEADS_TO_ITS_KEY: [Step; 23] = [
     Collect(0),
     Hides(0, 0, Some(2)),
     Key(0, 0, Some((Short, 1))),
-    Stands(2, true),
+    Exists(2, true),
     Slot(1, None),
     Collect(0),
-    Stands(1, false),
-    Stands(2, false),
+    Exists(1, false),
+    Exists(2, false),
     Hides(0, 0, None),
     Key(0, 0, None),
     Make(1),
@@ -216,7 +216,7 @@ const A_VALUE_LEADS_TO_ITS_KEY: [Step; 23] = [
     Hide(0, 0, 4),
     Slot(2, None),
     Collect(0),
-    Stands(4, false),
+    Exists(4, false),
 ];
 
 /// Each value is the key of the row before it in the table. Each round lets one value through.
@@ -236,11 +236,11 @@ const A_CHAIN_AGAINST_THE_ORDER_OF_THE_TABLE: [Step; 21] = [
     Slot(3, None),
     Slot(4, None),
     Collect(0),
-    Stands(4, true),
+    Exists(4, true),
     Slot(1, None),
     Collect(0),
-    Stands(1, false),
-    Stands(4, false),
+    Exists(1, false),
+    Exists(4, false),
     Hides(0, 0, None),
 ];
 
@@ -254,8 +254,8 @@ const A_LOST_TABLE: [Step; 11] = [
     Slot(0, None),
     Slot(2, None),
     Collect(0),
-    Stands(1, true),
-    Stands(2, false),
+    Exists(1, true),
+    Exists(2, false),
     Key(0, 0, None),
 ];
 
@@ -275,14 +275,14 @@ const SHORT_AND_LONG_ROWS_OF_A_REGISTERED_KEY: [Step; 23] = [
     Slot(2, None),
     Slot(3, None),
     Collect(1),
-    Stands(2, false),
+    Exists(2, false),
     Hides(0, 0, None),
     Hides(0, 1, Some(3)),
     Key(0, 1, Some((Long, 1))),
     Run(1, 7),
     Collect(0),
-    Stands(1, false),
-    Stands(3, false),
+    Exists(1, false),
+    Exists(3, false),
     Hides(0, 1, None),
 ];
 
@@ -303,8 +303,8 @@ const LED_TO_BY_A_ROW: [Step; 18] = [
     Collect(1),
     Run(1, 1),
     Collect(1),
-    Stands(1, false),
-    Stands(2, false),
+    Exists(1, false),
+    Exists(2, false),
     Run(3, 2),
 ];
 
@@ -371,7 +371,7 @@ fn pair_up(
     let key = made(rt, runtime, [key, Nothing, Nothing, Nothing]);
     let value = made(rt, runtime, [Reference(key), Nothing, Nothing, Nothing]);
     let mut pair = None;
-    if runtime.heap().stands(key) {
+    if runtime.heap().contains(key) {
         pair = Some(EphemeronPair::new(runtime, id, key, value).expect(rt, "memory"));
     }
     (pair.expect(rt, "the key is there"), key)

@@ -14,7 +14,7 @@ fn made(rt: &impl Abort, runtime: &mut Runtime) -> RecordId {
 
 /// Guards an existing record, and returns what was registered before.
 fn guard(rt: &impl Abort, runtime: &mut Runtime, guardian: Guardian, id: RecordId) -> Option<Old> {
-    if runtime.heap().stands(id) {
+    if runtime.heap().contains(id) {
         return guardian.guard(runtime, id).expect(rt, "memory").1;
     }
     None
@@ -23,7 +23,7 @@ fn guard(rt: &impl Abort, runtime: &mut Runtime, guardian: Guardian, id: RecordI
 /// Makes the first field of a record weak.
 fn paired(rt: &impl Abort, runtime: &mut Runtime, id: RecordId, first: RecordId) -> WeakPair {
     let mut pair = None;
-    if runtime.heap().stands(first) {
+    if runtime.heap().contains(first) {
         let made = WeakPair::new(runtime, id, first).expect(rt, "memory");
         pair = Some(made);
     }
@@ -60,8 +60,8 @@ fn a_guardian_has_a_ring(rt: HostRuntime) {
     must_be(&rt, guardian.next(&mut runtime), Some(two), "the other");
     must_be(&rt, guardian.next(&mut runtime), None, "each once");
     let _ = runtime.collect();
-    must_be(&rt, runtime.heap().stands(one), false, "it is gone");
-    must_be(&rt, runtime.heap().stands(two), false, "both are");
+    must_be(&rt, runtime.heap().contains(one), false, "it is gone");
+    must_be(&rt, runtime.heap().contains(two), false, "both are");
 }
 
 /// Entries of another guardian, of a finalizer and of a cleanup with the same number are in the queue before that of the guardian.
@@ -82,7 +82,7 @@ fn a_guardian_has_its_own(rt: HostRuntime) {
         procedure: 3,
         ..guardian.finalizer()
     };
-    if runtime.heap().stands(second) {
+    if runtime.heap().contains(second) {
         let _ = runtime.register(second, finalizer).expect(&rt, "memory");
     }
     must_be(&rt, runtime.collect().picked, 3, "all are lost");
@@ -126,7 +126,7 @@ fn a_guardian_saves_a_record(rt: HostRuntime) {
     must_be(&rt, field(&runtime, pair.id()), hidden, "hidden");
     let _ = runtime.pop_root();
     let _ = runtime.collect();
-    must_be(&rt, runtime.heap().stands(id), false, "it is gone");
+    must_be(&rt, runtime.heap().contains(id), false, "it is gone");
     must_be(&rt, pair.first(&runtime), None, "the pair has nothing");
     let cleared = Some(Nothing);
     must_be(&rt, field(&runtime, pair.id()), cleared, "not even hidden");
@@ -145,7 +145,7 @@ fn a_pair_changes_its_record(rt: HostRuntime) {
     must_be(&rt, pair.first(&runtime), Some(one), "the first one");
     let pair = paired(&rt, &mut runtime, pair.id(), two);
     let _ = runtime.collect();
-    must_be(&rt, runtime.heap().stands(one), false, "it is gone");
+    must_be(&rt, runtime.heap().contains(one), false, "it is gone");
     must_be(
         &rt,
         pair.first(&runtime),

@@ -35,7 +35,7 @@ pub(crate) fn remove_root(rt: &impl Abort, runtime: &mut Runtime, id: RecordId) 
 
 /// Registers an existing record.
 pub(crate) fn register(rt: &impl Abort, runtime: &mut Runtime, id: RecordId, finalizer: Finalizer) {
-    if runtime.heap().stands(id) {
+    if runtime.heap().contains(id) {
         runtime.register(id, finalizer).expect(rt, "a finalizer");
     }
 }
@@ -48,7 +48,7 @@ pub(crate) fn link(
     word: Addr,
     target: RecordId,
 ) {
-    if runtime.heap().stands(target) {
+    if runtime.heap().contains(target) {
         runtime.link(kind, word, target).expect(rt, "a link");
     }
 }
@@ -70,8 +70,8 @@ pub(crate) fn picks(rt: &impl Abort, runtime: &mut Runtime, want: u64, what: &st
 }
 
 /// A record has to exist, or not.
-pub(crate) fn stands(rt: &impl Abort, runtime: &Runtime, id: RecordId, want: bool, what: &str) {
-    must_be(rt, runtime.heap().stands(id), want, what);
+pub(crate) fn exists(rt: &impl Abort, runtime: &Runtime, id: RecordId, want: bool, what: &str) {
+    must_be(rt, runtime.heap().contains(id), want, what);
 }
 
 /// The fields of a record, if it exists.

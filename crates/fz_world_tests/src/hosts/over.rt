@@ -174,7 +174,7 @@ fn register(rt: &impl Abort, both: &mut Both, id: RecordId, random: &mut Random)
         client_data,
         rank: u8::from(random.below(2) == 0),
     };
-    if both.runtime.heap().stands(id) && both.asked.heap.stands(id) {
+    if both.runtime.heap().contains(id) && both.asked.heap.contains(id) {
         let one = both.runtime.register(id, finalizer).expect(rt, "a number");
         let other = both.asked.register(id, finalizer).expect(rt, "a number");
         must_be(rt, other, one, "the same registration");
@@ -186,7 +186,7 @@ fn weaken(rt: &impl Abort, both: &mut Both, id: RecordId, random: &mut Random) {
     let to = any(rt, both, random);
     let word = id.word(random.below(FIELDS as u64) as usize % FIELDS);
     let kind = kind_of(random);
-    if !both.runtime.heap().stands(to) || !both.asked.heap.stands(to) {
+    if !both.runtime.heap().contains(to) || !both.asked.heap.contains(to) {
         return;
     }
     if random.below(2) == 0 {
@@ -207,7 +207,7 @@ fn clean(rt: &impl Abort, both: &mut Both, id: RecordId, random: &mut Random) {
         rank: u8::from(random.below(2) == 0),
         when: kind_of(random),
     };
-    if both.runtime.heap().stands(id) && both.asked.heap.stands(id) {
+    if both.runtime.heap().contains(id) && both.asked.heap.contains(id) {
         let one = both.runtime.add_cleanup(id, cleanup).expect(rt, "one");
         let other = both.asked.add_cleanup(id, cleanup).expect(rt, "one");
         must_be(rt, other, one, "the same cleanup");

@@ -2,8 +2,8 @@
 
 use crate::equal::must_be;
 use crate::hosts::heaps::{
-    add_root, fields, finish, heap_with, leads_to, link, made, picks, register, remove_root,
-    stands, taken, write,
+    add_root, exists, fields, finish, heap_with, leads_to, link, made, picks, register,
+    remove_root, taken, write,
 };
 use fz_finalizers::{Entry, Finalizer, Kind, LinkKind, MoveAnswer, Old, Refused};
 use own_heap::Field::{Hidden, Nothing, Number, Reference};
@@ -58,18 +58,18 @@ fn stem_is_picked(rt: &impl Abort, runtime: &mut Runtime, plant: Plant) -> Entry
 }
 
 #[test]
-fn the_record_of_a_taken_entry_stands_until_it_is_finished(rt: HostRuntime) {
+fn the_record_of_a_taken_entry_stays_until_it_is_finished(rt: HostRuntime) {
     let mut runtime = heap_with(&rt, rt.alloc(), 8);
     let plant = planted(&rt, &mut runtime);
     let entry = stem_is_picked(&rt, &mut runtime, plant);
     picks(&rt, &mut runtime, 0, "once");
-    stands(&rt, &runtime, plant.stem, true, "the stem stands");
-    stands(&rt, &runtime, plant.leaf, true, "the leaf stands");
+    exists(&rt, &runtime, plant.stem, true, "the stem exists");
+    exists(&rt, &runtime, plant.leaf, true, "the leaf exists");
 
     finish(&rt, &mut runtime, &entry);
     picks(&rt, &mut runtime, 0, "nothing is left");
-    stands(&rt, &runtime, plant.stem, false, "the stem is gone");
-    stands(&rt, &runtime, plant.leaf, false, "the leaf is gone");
+    exists(&rt, &runtime, plant.stem, false, "the stem is gone");
+    exists(&rt, &runtime, plant.leaf, false, "the leaf is gone");
 }
 
 /// The link of each kind at a word outside of the heap has to lead to this address.
@@ -116,7 +116,7 @@ fn a_registration_is_removed_once(rt: HostRuntime) {
     unregisters(&rt, &mut runtime, leaf, old, "its own");
     unregisters(&rt, &mut runtime, leaf, None, "once");
     picks(&rt, &mut runtime, 0, "no finalizer");
-    stands(&rt, &runtime, leaf, false, "it is gone");
+    exists(&rt, &runtime, leaf, false, "it is gone");
 }
 
 /// Moves a link, and compares the answer.

@@ -171,7 +171,7 @@ fn must_be_stuck(
 }
 
 #[test]
-fn a_copy_tells_of_rings(rt: HostRuntime) {
+fn a_copy_explains_rings(rt: HostRuntime) {
     let alloc = rt.alloc();
     let mut finalizers = Finalizers::new(alloc).expect(&rt, "memory");
     let mut snapshot = copy_of(&rt, alloc, &TWO);
@@ -246,7 +246,7 @@ fn a_copy_has_values_of_ephemerons(rt: HostRuntime) {
 
 /// A registered object, or the target of a short link, is an object of no word that was listed.
 #[test]
-fn a_copy_that_lacks_an_object_tells_nothing(rt: HostRuntime) {
+fn a_copy_that_lacks_an_object_explains_nothing(rt: HostRuntime) {
     let alloc = rt.alloc();
     let snapshot = copy_of(&rt, alloc, &TWO);
     let mut finalizers = Finalizers::new(alloc).expect(&rt, "memory");

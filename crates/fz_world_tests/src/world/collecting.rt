@@ -20,7 +20,7 @@ fn filled(alloc: Global, is_registered: bool) -> Result<World, Refusal> {
 }
 
 /// Whether an allocation finds no room, one that collects succeeds, and a further one fails because everything is reachable.
-fn allocations_answer(alloc: Global) -> Result<[bool; 3], Refusal> {
+fn allocation_results(alloc: Global) -> Result<[bool; 3], Refusal> {
     let mut world = filled(alloc, false)?;
     let has_no_space = world.alloc(0, 0, 1, Atomic) == Err(Refusal::NoSpace);
     let is_made = world
@@ -61,7 +61,7 @@ fn an_allocation_leaves_an_open_cycle(rt: HostRuntime) {
 fn an_allocation_collects(rt: HostRuntime) {
     must_be(
         &rt,
-        allocations_answer(rt.alloc()),
+        allocation_results(rt.alloc()),
         Ok([true; 3]),
         "allocations",
     );

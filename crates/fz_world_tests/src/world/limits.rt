@@ -30,7 +30,7 @@ fn limits_of_an_opening(rt: HostRuntime) {
 }
 
 /// What calls on the last slot, and beyond it, return.
-fn slots_answer(world: &mut World) -> bool {
+fn slots_are_limited(world: &mut World) -> bool {
     let (frame, slot) = (MAX_FRAMES - 1, SLOTS - 1);
     world.set(frame, slot, 1) == Ok(())
         && world.set(frame + 1, 0, 1) == Err(Refusal::BadSlot)
@@ -39,15 +39,20 @@ fn slots_answer(world: &mut World) -> bool {
 }
 
 /// Whether the slots of a world with all frames behave in this way.
-fn all_slots_answer(alloc: Global) -> Result<bool, Refusal> {
+fn all_slots_are_limited(alloc: Global) -> Result<bool, Refusal> {
     let mut world = opened(alloc, 1, MAX_FRAMES)?;
-    Ok(slots_answer(&mut world))
+    Ok(slots_are_limited(&mut world))
 }
 
 /// A world has at most 8 frames of 16 slots.
 #[test]
 fn limits_of_frames(rt: HostRuntime) {
-    must_be(&rt, all_slots_answer(rt.alloc()), Ok(true), "the slots");
+    must_be(
+        &rt,
+        all_slots_are_limited(rt.alloc()),
+        Ok(true),
+        "the slots",
+    );
 }
 
 /// How many objects are queued in a round.

@@ -159,7 +159,7 @@ fn held(world: &mut World, slot: u64, place: usize) -> Result<(), Refusal> {
 }
 
 /// Whether a step that allocates, reads or writes words returns the expected result. None: it is another one.
-fn answers_on_words(world: &mut World, step: Step) -> Option<bool> {
+fn right_on_words(world: &mut World, step: Step) -> Option<bool> {
     Some(match step {
         New(slot, size, kind, want) => made(world, slot, size, kind) == want,
         Store(slot, word, from, want) => world.store(0, slot, word, 0, from) == want,
@@ -170,7 +170,7 @@ fn answers_on_words(world: &mut World, step: Step) -> Option<bool> {
 }
 
 /// The same of a step that changes registrations or links.
-fn answers_on_tables(world: &mut World, step: Step) -> Option<bool> {
+fn right_on_tables(world: &mut World, step: Step) -> Option<bool> {
     Some(match step {
         Register(slot, kind, rank, want) => registered(world, slot, kind, rank) == number(want),
         Registers(slot, want) => registered(world, slot, Normal, 0) == want,
@@ -183,7 +183,7 @@ fn answers_on_tables(world: &mut World, step: Step) -> Option<bool> {
 }
 
 /// The same of a step of a cycle.
-fn answers_in_cycle(world: &mut World, step: Step) -> Option<bool> {
+fn right_in_cycle(world: &mut World, step: Step) -> Option<bool> {
     Some(match step {
         Begin(want) => world.begin() == want,
         Mark(budget, want) => world.mark(budget) == Ok(want),
@@ -197,7 +197,7 @@ fn answers_in_cycle(world: &mut World, step: Step) -> Option<bool> {
 }
 
 /// The same of a step with entries.
-fn answers_on_entries(world: &mut World, step: Step) -> Option<bool> {
+fn right_on_entries(world: &mut World, step: Step) -> Option<bool> {
     Some(match step {
         Hold(slot, place) => held(world, slot, place) == Ok(()),
         Finish(place, want) => finished(world, place) == want,
@@ -209,23 +209,23 @@ fn answers_on_entries(world: &mut World, step: Step) -> Option<bool> {
 }
 
 /// Whether a step returns the expected result.
-fn answers(world: &mut World, step: Step) -> bool {
-    if let Some(answer) = answers_on_words(world, step) {
-        return answer;
+fn is_right(world: &mut World, step: Step) -> bool {
+    if let Some(found) = right_on_words(world, step) {
+        return found;
     }
-    if let Some(answer) = answers_on_tables(world, step) {
-        return answer;
+    if let Some(found) = right_on_tables(world, step) {
+        return found;
     }
-    if let Some(answer) = answers_in_cycle(world, step) {
-        return answer;
+    if let Some(found) = right_in_cycle(world, step) {
+        return found;
     }
-    answers_on_entries(world, step).unwrap_or(false)
+    right_on_entries(world, step).unwrap_or(false)
 }
 
 /// The index of the first step that returns another result.
 fn first_wrong(world: &mut World, steps: &[Step]) -> Option<usize> {
     for (place, step) in steps.iter().enumerate() {
-        if !answers(world, *step) {
+        if !is_right(world, *step) {
             return Some(place);
         }
     }

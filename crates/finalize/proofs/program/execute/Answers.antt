@@ -30,7 +30,7 @@ returns-in-Ok g c = record {
   ends = ran _ _ c.in-Ok.program c.in-Ok.file _ _ _ _ _ c.program_and_file.result c.in-Ok.ensures.names (search rules) c.program_and_file.ensures.found c.run_file.ensures;
 }
 
--- wrong words are no want of memory
+-- wrong words aren't out of memory
 is_no_want : (fault : WordsFault) → fault ≡ Wrong → fault ≡ NoMemory → ⊥
 is_no_want fault wrong want = cc
 

@@ -1,4 +1,4 @@
--- The entries at the places so far stand at the front, those from here on are as they were, and so are the places.
+-- The entries at the places so far are at the front, those from here on are as they were, and so are the places.
 use Rattle.std.proofs.Common.{◌≡◌, ◌≤◌, ◌||◌, ◌&&◌, ◌-◌, ℕ, nat_le, nat_lt, take, length, slice_get, vec_capacity}
 use Rattle.std.specs.FinSet.{contains}
 use Rattle.fz_finalizers.specs.Queue.{placed_in}

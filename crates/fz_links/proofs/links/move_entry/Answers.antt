@@ -62,7 +62,7 @@ absent c = (rw c.in-Vacant.is at c.in_ok-room.ensures.found)
 free : (c : goal.After-swap_remove_index) → get (from_entries {R = nat_cmp} c.args.entries.now.entries) c.args.new ≡ None
 free c = looked_up c.args.entries.now.entries (from_entries c.args.entries.now.entries) c.args.new None refl (sym (absent c))
 
--- the old link still stands at its place when the new one has gone last, and it is what is removed there
+-- the old link is still at its place when the new one has been put last, and it is what is removed there
 taken : (c : goal.After-swap_remove_index) → c.swap_remove_index.result ≡ Some (c.args.link, c.in-Some.target.now)
 taken c =
     let es = c.args.entries.now.entries in
@@ -73,7 +73,7 @@ taken c =
     ∙ place_kept es c.in-Some.old_place _ _ c.in-Some.ensures.entry
     ∙ ap (λ k. Some (k, c.in-Some.target.now)) (sym key)
 
--- what stands there in the end
+-- what is there in the end
 left : (c : goal.After-swap_remove_index) → from_entries {R = nat_cmp} c.swap_remove_index.new.self.entries ≡ remove (insert (from_entries c.args.entries.now.entries) c.args.new c.in-Some.target.now) c.args.link
 left c =
     let grown = map_with_value c.in_ok-room.field-0 c.in-Some.target.now in

@@ -107,7 +107,7 @@ fn register(
         rank: 0,
     };
     let id = id_of(rt, records, record);
-    if records.runtime.heap().stands(id) {
+    if records.runtime.heap().contains(id) {
         records
             .runtime
             .register(id, finalizer)
@@ -130,7 +130,7 @@ fn attach(
         rank: 0,
     };
     let id = id_of(rt, records, record);
-    if records.runtime.heap().stands(id) {
+    if records.runtime.heap().contains(id) {
         records
             .runtime
             .add_cleanup(id, cleanup)
@@ -141,7 +141,7 @@ fn attach(
 /// Makes a word a short link to a record.
 fn link(rt: &impl Abort, records: &mut Records, word: Addr, to: usize) {
     let target = id_of(rt, records, to);
-    if records.runtime.heap().stands(target) {
+    if records.runtime.heap().contains(target) {
         records
             .runtime
             .link(LinkKind::Short, word, target)
@@ -160,7 +160,7 @@ fn keyed(
 ) {
     let word = id_of(rt, records, record).word(field % FIELDS);
     let id = id_of(rt, records, key);
-    if records.runtime.heap().stands(id) {
+    if records.runtime.heap().contains(id) {
         records
             .runtime
             .ephemeron(kind, word, id)
