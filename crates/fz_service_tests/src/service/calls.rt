@@ -60,7 +60,7 @@ fn counts<O: Opening>(locked: &mut Locked<O>) -> Result<(Reply, u64, u64), Refus
     Ok((reply, forgotten, noted))
 }
 
-fn calls_return<O: Opening, R: Abort + Wait>(rt: &R, prepared: Prepared)
+fn answers<O: Opening, R: Abort + Wait>(rt: &R, prepared: Prepared)
     requires { prepared ≡ O.origin }
 {
     let (service, seats) = opened::<O>(rt, prepared);
@@ -95,7 +95,7 @@ fn calls_return<O: Opening, R: Abort + Wait>(rt: &R, prepared: Prepared)
 }
 
 #[test]
-fn calls_return_under_the_lock(rt: HostRuntime) {
+fn calls_answer_under_the_lock(rt: HostRuntime) {
     let prepared = prepared(&rt, rt.alloc(), 2);
-    calls_return::<Brand, HostRuntime>(&rt, prepared);
+    answers::<Brand, HostRuntime>(&rt, prepared);
 }
