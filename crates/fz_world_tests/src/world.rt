@@ -5,4 +5,5 @@ mod calls;
 mod collecting;
 mod limits;
 mod shown;
+mod steps;
 mod tests;

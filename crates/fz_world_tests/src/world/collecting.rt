@@ -1,6 +1,6 @@
 //! Allocations that collect if there is no room.
 
-use super::tests::{opened, registered};
+use super::steps::{opened, registered};
 use crate::equal::must_be;
 use fz_model::ObjKind::{Atomic, Scanned};
 use fz_model::RegKind::Normal;

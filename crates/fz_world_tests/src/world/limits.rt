@@ -1,6 +1,6 @@
 //! The limits of a world's size, its slots, and a queue, which has none.
 
-use super::tests::opened;
+use super::steps::opened;
 use crate::equal::must_be;
 use fz_model::{MAX_BLOCKS, MAX_FRAMES, ObjKind, Refusal, RegKind, SLOTS};
 use fz_world::World;
