@@ -27,11 +27,7 @@ impl OpenFiles {
 
     /// Removes the file with this number, if it exists.
     pub(crate) fn remove(&mut self, number: u64) -> Option<File> {
-        if number < self.places.len() as u64 {
-            self.places[number as usize].take()
-        } else {
-            None
-        }
+        self.places.get_mut(number as usize)?.take()
     }
 
     /// The file with this number, if it exists.

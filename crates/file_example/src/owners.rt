@@ -47,9 +47,17 @@ pub(crate) fn make_owner(world: &mut World, file: u64) -> Result<(), Refusal>
     world.alloc(0, HAND, 1, Scanned)?;
     world.register(0, HAND, Normal, CLOSE, file, 0)?;
     world.store(0, KEPT, file, 0, HAND)?;
+    cache(world, file)?;
+    world.set(0, HAND, 0)
+}
+
+/// Caches the current object, which owns this file.
+fn cache(world: &mut World, file: u64) -> Result<(), Refusal>
+    ensures { RunsCalls world.old world.new }
+{
     world.store(0, CACHE, file, 0, HAND)?;
     world.link(Short, 0, CACHE, file, 0, HAND)?;
-    world.set(0, HAND, 0)
+    Ok(())
 }
 
 /// Drops the object that owns this file.

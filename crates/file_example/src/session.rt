@@ -58,11 +58,9 @@ fn print_files<O: Opening, R: Print + Wait>(
 
 /// Prints the totals.
 fn print_end<R: Print>(rt: &R, end: &Final) -> Result<()> {
-    println!(rt;
-        "queued {}, finished {}, abandoned {}",
-        end.enqueued, end.finished, end.forfeited
-    )?;
-    let left = end.left.len();
-    println!(rt; "left {left}, reclaimed {}", end.reclaimed)?;
+    let (queued, finished, abandoned) = (end.enqueued, end.finished, end.forfeited);
+    println!(rt; "queued {queued}, finished {finished}, abandoned {abandoned}")?;
+    let (left, reclaimed) = (end.left.len(), end.reclaimed);
+    println!(rt; "left {left}, reclaimed {reclaimed}")?;
     Ok(())
 }
