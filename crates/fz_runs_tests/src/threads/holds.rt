@@ -63,8 +63,8 @@ fn takes<R: AllocGlobal + Abort + Threads + Wait + Sync>(
 const RUNS: u32 = 200;
 
 /// Files over one block and frames, with how often their runs take the lock: once for each call, for the pause at the end and for each collection after it;
-/// and for the worker once for up to 32 entries that a collection queued, since their procedures need no lock. The first nine files queue none.
-const FILES: [(u64, &[u8], u64); 11] = [
+/// and for the worker once for up to 32 entries that a collection queued, since their procedures need no lock. The first ten files queue none.
+const FILES: [(u64, &[u8], u64); 12] = [
     (1, b"open 1 1 1\nsettle 0\n", 1),
     (1, b"open 1 1 1\nsettle 3\n", 4),
     (1, b"open 1 1 1\nsettle 100\n", 101),
@@ -96,6 +96,12 @@ const FILES: [(u64, &[u8], u64); 11] = [
         2,
         b"open 1 2 1\nsettle 0\nmutator\nset 0 0 1\nset 0 0 0\nmutator\ncopy 1 0 1 1\ncollector\nbegin\n",
         5,
+    ),
+    // a call of each other kind
+    (
+        1,
+        b"open 1 1 1\nsettle 0\nmutator\nnew 0 0 2 scanned\nnew 0 1 2 scanned\nstore 0 0 0 0 1\nload 0 0 0 0 2\nlink short 0 0 1 0 1\nmove short 0 0 1 0 1 1\nunlink short 0 1 1\nregister 0 1 normal 0 0\nunregister 0 1\n",
+        10,
     ),
     (
         1,
