@@ -11,6 +11,7 @@ mod diary;
 mod ending;
 mod event;
 mod held;
+mod holds;
 mod law;
 mod locked;
 mod opening;

@@ -12,6 +12,7 @@ ghost use Rattle.std.specs.Fn.{FnOnceReturnsAtMut};
 ghost use Rattle.fz_service.specs.Takes.{reply_of};
 
 use crate::bell::{Bell, Rung};
+use crate::holds::Holds;
 use crate::opening::{Finishes, Opening};
 use crate::seat::{Duty, Seat};
 use crate::shortages::Shortages;
@@ -37,7 +38,7 @@ pub struct Locked<O: Opening> {
     pub(crate) book: Book<Finishes<O>>,
     /// The rest of the ledger's shares, after each seat got its own: no part.
     pub(crate) rest: Share<Finishes<O>>,
-    pub(crate) holds: u64,
+    pub(crate) holds: Holds,
 }
 
 impl<O: Opening> Model for Locked<O> {
@@ -78,20 +79,20 @@ impl<O: Opening> Locked<O> {
     {
         Locked {
             alloc,
+            holds: Holds::at_opening::<O>(&world),
             world,
             owner,
             rung: Rung::new(bell),
             shortages: Shortages::none(),
             book,
             rest,
-            holds: 0,
         }
     }
 
-    /// How often the lock was taken since the opening, including this time. No contract mentions it: tests use it to show that the lock isn't taken more
-    /// often than needed.
+    /// How often the lock was taken since the opening, including this time, modulo 2^64. No contract mentions it: tests use it to show that the lock isn't
+    /// taken more often than needed.
     pub fn holds(&self) -> u64 {
-        self.holds
+        self.holds.count()
     }
 
     /// The overflow queue: the entries that weren't sent yet.

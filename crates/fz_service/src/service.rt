@@ -124,7 +124,7 @@ impl<O: Opening> Service<O> {
     {
         let mut guard = self.take_lock(rt);
         let locked: &mut Locked<O> = &mut guard;
-        locked.holds = locked.holds.wrapping_add(1);
+        locked.holds.add_one();
         guard
     }
 
