@@ -6,7 +6,7 @@ including the tool itself, the modules that it imports, and the programs and scr
 machine: the versions of all packages, the files of all commands, the toolchain, Python and the kernel. A run that failed, or that skipped something, isn't
 kept.
 
-tests/prove, tests/c-library and tests/unproved.py keep proofs, archives and programs in the same way, under sums of their own.
+tests/c-library and tests/unproved.py keep archives and programs in the same way, under sums of their own.
 
 Entries are stored below ~/.cache/derrimas (XDG_CACHE_HOME). Each has a folder with its record and its files. A record has the sum of each file, and a code made
 with a secret of this user on this machine. So an entry that is damaged, has another name, or was copied from elsewhere isn't accepted. Anyone who can read the

@@ -207,17 +207,18 @@ fn closes_in_a_cycle<O: Opening, R: Abort + Wait>(rt: &R, prepared: Prepared)
     requires { prepared ≡ O.origin }
 {
     let (service, seats) = opened::<O>(rt, prepared);
-    make_and_drop(rt, &mut service.enter(rt));
-    accepted(rt, "begin", service.enter(rt).begin());
-    accepted(rt, "close", service.enter(rt).close());
+    let mut locked = service.enter(rt);
+    make_and_drop(rt, &mut locked);
+    accepted(rt, "begin", locked.begin());
+    accepted(rt, "close", locked.close());
     let passed = Passed {
         pass: 1,
         picked: 0,
         reclaimed: 0,
     };
-    same(rt, "pause", service.enter(rt).pause(), Ok(passed));
-    let again = service.enter(rt).close();
-    same(rt, "a second close", again, Err(Refusal::Closed));
+    same(rt, "pause", locked.pause(), Ok(passed));
+    same(rt, "a second close", locked.close(), Err(Refusal::Closed));
+    drop(locked);
     let end = ended(rt, service, seats);
     let counts = (end.enqueued, end.left.len(), end.passes);
     same(rt, "queued, left and passes", counts, (0, 0, 1));
