@@ -1,11 +1,9 @@
-//! Tests of the libraries below the world, and of scripts, through their public calls. They have a crate of their own: a crate with tests is proved twice,
-//! and each crate of tests takes a minute or two to load its dependencies.
+//! Tests of the libraries below the world, through their public calls: of what no clause states, and worked rows of ephemerons. They have a crate of their own:
+//! a crate with tests is proved twice, and each crate of tests takes a minute or two to load its dependencies.
 #![tactic(auto)]
 
 #[cfg(test)]
-mod blocks;
-#[cfg(test)]
-mod dirty;
+mod bits;
 #[cfg(test)]
 mod ephemerons;
 #[cfg(test)]
@@ -13,16 +11,10 @@ mod equal;
 #[cfg(test)]
 mod hash;
 #[cfg(test)]
-mod heap;
-#[cfg(test)]
 mod line;
 #[cfg(test)]
 mod links;
 #[cfg(test)]
 mod marker;
-#[cfg(test)]
-mod ready;
-#[cfg(test)]
-mod script;
 #[cfg(test)]
 mod table;

@@ -1,6 +1,6 @@
 //! What no clause states: that calls succeed, and what they return after a failed allocation.
 
-use crate::equal::{must_be, note_once};
+use crate::equal::must_be;
 use fz_links::Links;
 use fz_model::{Addr, HEAP_START, LinkAnswer, MoveAnswer, Refusal, TABLE_LIMIT};
 use std::alloc::{AllocError, Global};
@@ -49,95 +49,6 @@ fn must_run(rt: &impl Abort, links: &mut Links, steps: &[Step]) {
     must_be(rt, first_wrong(links, steps), None, "all steps");
 }
 
-#[test]
-fn registers_and_unregisters(rt: HostRuntime) {
-    let mut links = Links::new(rt.alloc());
-    must_run(
-        &rt,
-        &mut links,
-        &[
-            Len(0),
-            Unregister(70_000, false),
-            Reserve(TABLE_LIMIT as usize), // room for as many as there may be
-            Len(0),
-            Register(70_000, 80_000, Ok(LinkAnswer::Success)),
-            Register(70_001, 80_000, Ok(LinkAnswer::Success)),
-            Register(70_000, 80_064, Ok(LinkAnswer::Duplicate)),
-            Len(2),
-            Get(70_000, Some(80_064)), // the new target
-            Unregister(70_000, true),
-            Unregister(70_000, false),
-            Get(70_000, None),
-        ],
-    );
-}
-
-#[test]
-fn moves_a_link(rt: HostRuntime) {
-    let mut links = Links::new(rt.alloc());
-    must_run(
-        &rt,
-        &mut links,
-        &[
-            Move(1, 1, Ok(MoveAnswer::NotFound)),
-            Register(1, 11, Ok(LinkAnswer::Success)),
-            Register(2, 12, Ok(LinkAnswer::Success)),
-            Register(3, 13, Ok(LinkAnswer::Success)),
-            Move(4, 1, Ok(MoveAnswer::NotFound)),
-            Move(1, 1, Ok(MoveAnswer::Success)), // to its own word
-            Move(1, 2, Ok(MoveAnswer::Duplicate)), // to a taken word
-            Get(1, Some(11)),
-            Move(1, 5, Ok(MoveAnswer::Success)),
-            Get(1, None),
-            Get(5, Some(11)),
-            Len(3),
-        ],
-    );
-}
-
-#[test]
-fn iterates_over_all(rt: HostRuntime) {
-    let mut links = Links::new(rt.alloc());
-    for link in 100..110u64 {
-        let is_registered = links.register(link, link ^ 1).is_ok();
-        must_be(&rt, is_registered, true, "one of ten links");
-    }
-    links.unregister(103);
-
-    let entries = links.iter();
-    must_be(&rt, entries.len(), 9, "nine links are left");
-    must_be(&rt, entries.size_hint(), (9, Some(9)), "nine to come");
-    let mut seen = [false; 10];
-    for (link, target) in entries {
-        must_be(&rt, target, link ^ 1, "the target of a link");
-        note_once(&rt, &mut seen, link.wrapping_sub(100));
-    }
-    let want = [true, true, true, false, true, true, true, true, true, true];
-    must_be(&rt, seen, want, "all links but 103");
-}
-
-fn drop_all(links: &mut Links) {
-    links.drop_where(|_link: u64, _target: u64| -> bool { true });
-}
-
-#[test]
-fn drops_by_link_and_target(rt: HostRuntime) {
-    let mut links = Links::new(rt.alloc());
-    for link in 0..1_000u64 {
-        let is_registered = links.register(link, link % 7).is_ok();
-        must_be(&rt, is_registered, true, "one of 1,000 links");
-    }
-    links.drop_where(|link: u64, target: u64| -> bool { target == 3 || link < 10 });
-    // 143 links have the target 3, and 9 others are below 10.
-    let left = [Len(848), Get(9, None), Get(10, None), Get(11, Some(4))];
-    must_run(&rt, &mut links, &left);
-    drop_all(&mut links);
-    must_run(&rt, &mut links, &[Len(0)]);
-    drop_all(&mut links);
-    let again = [Register(9, 1, Ok(LinkAnswer::Success))];
-    must_run(&rt, &mut links, &again);
-}
-
 /// A word above those of all the links.
 const FURTHER: Addr = HEAP_START + 2 * TABLE_LIMIT;
 
@@ -164,6 +75,7 @@ fn holds_as_many_as_the_limit(rt: HostRuntime) {
             Unregister(HEAP_START + 4, true),
             // There is room for one.
             Register(HEAP_START + 2, 1, Ok(LinkAnswer::Success)),
+            Reserve(TABLE_LIMIT as usize),
         ],
     );
 }

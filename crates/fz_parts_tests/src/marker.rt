@@ -3,7 +3,6 @@
 ghost use Rattle.std.specs.Prelude.{◌≡◌, ◌≤◌, ◌<◌, ◌*◌, All, IfOk};
 ghost use Rattle.std.specs.FinSet.{len};
 ghost use Rattle.fz_model.specs.declared.limits.TheConstants.{BLOCK_WORDS};
-ghost use Rattle.fz_model.specs.Extents.{IsInHeap};
 
 use crate::equal::must_be;
 use fz_dirty::Dirty;
@@ -142,47 +141,5 @@ fn the_largest_heap_is_marked(rt: HostRuntime) -> Result<(), Fail> {
     must_be(&rt, marker.scans(), count, "each object once");
     let is_marked = marker.is_marked(HEAP_START + count - 1);
     must_be(&rt, is_marked, true, "the last object");
-    Ok(())
-}
-
-/// Begins a cycle and traces from one object into the second set.
-fn trace_anew(marker: &mut Marker, heap: &Heap, start: Addr)
-    requires size { marker.old.size ≡ BLOCK_WORDS * heap.now.blocks }
-    requires in_heap { IsInHeap heap.now.blocks start }
-    ensures size { marker.new.size ≡ marker.old.size }
-{
-    marker.begin();
-    marker.trace(heap, start);
-}
-
-#[test]
-fn a_trace_leaves_the_marks(rt: HostRuntime) -> Result<(), Fail> {
-    let mut heap = Heap::new(rt.alloc(), 2)?;
-    make_chain(&mut heap, 100)?;
-    let mut marker = Marker::new(rt.alloc(), 2)?;
-    trace_anew(&mut marker, &heap, HEAP_START + 50);
-    must_be(&rt, marker.traced(HEAP_START + 99), true, "the last");
-    must_be(&rt, marker.traced(HEAP_START + 49), false, "one before");
-    let is_marked = marker.is_marked(HEAP_START + 50);
-    must_be(&rt, is_marked, false, "a trace marks none");
-    marker.root(&heap, HEAP_START + 99);
-    marker.trace_found();
-    let is_last_in_both = marker.kept().contains(HEAP_START + 99)
-        && marker.found().contains(HEAP_START + 99);
-    must_be(&rt, is_last_in_both, true, "the last in both sets");
-    must_be(&rt, marker.traced(HEAP_START + 50), false, "not kept");
-    Ok(())
-}
-
-#[test]
-fn an_object_is_traced_alone(rt: HostRuntime) -> Result<(), Fail> {
-    let mut heap = Heap::new(rt.alloc(), 2)?;
-    make_chain(&mut heap, 100)?;
-    let mut marker = Marker::new(rt.alloc(), 2)?;
-    trace_anew(&mut marker, &heap, HEAP_START + 50);
-    marker.trace_alone(HEAP_START + 40);
-    must_be(&rt, marker.traced(HEAP_START + 40), true, "the object");
-    must_be(&rt, marker.traced(HEAP_START + 41), false, "its child");
-    must_be(&rt, marker.traced(HEAP_START + 50), true, "what was traced");
     Ok(())
 }

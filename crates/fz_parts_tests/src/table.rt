@@ -1,7 +1,7 @@
 //! What no clause states: that calls succeed, and what they return after a failed allocation.
 
-use crate::equal::{must_be, note_once};
-use fz_model::{Addr, Finalizer, HEAP_START, Old, Refusal, RegKind, Registration, TABLE_LIMIT};
+use crate::equal::must_be;
+use fz_model::{Addr, Finalizer, HEAP_START, Old, Refusal, RegKind, TABLE_LIMIT};
 use fz_table::Table;
 use std::process::Abort;
 
@@ -11,22 +11,18 @@ enum Step {
     /// Reserves room for this many registrations.
     Reserve(usize),
     Register(Addr, Finalizer, Result<(u64, Option<Old>), Refusal>),
-    Get(Addr, Option<Registration>),
-    Take(Addr, Option<Registration>),
     Remove(Addr, Option<Old>),
     /// How many objects are registered, and whether there is one.
     Len(usize),
 }
 
-use Step::{Get, Len, Register, Remove, Reserve, Take};
+use Step::{Len, Register, Remove, Reserve};
 
 /// Whether a step returns the expected result.
 fn is_right(table: &mut Table, step: Step) -> bool {
     match step {
         Reserve(more) => table.reserve(more) == Ok(()),
         Register(object, finalizer, want) => table.register(object, finalizer) == want,
-        Get(object, want) => table.get(object) == want,
-        Take(object, want) => table.take(object) == want,
         Remove(object, want) => table.remove(object) == want,
         Len(want) => table.len() == want && table.is_empty() == (want == 0),
     }
@@ -49,68 +45,6 @@ fn must_run(rt: &impl Abort, table: &mut Table, steps: &[Step]) {
 
 fn finalizer(kind: RegKind, procedure: u64, client_data: u64, rank: u8) -> Finalizer {
     Finalizer::new(kind, procedure, client_data, rank)
-}
-
-const REGISTRATION: Registration = Registration {
-    number: 2,
-    kind: RegKind::IgnoreSelf,
-    proc: 11,
-    cd: 12,
-    rank: 255,
-};
-
-#[test]
-fn registers_replaces_and_takes(rt: HostRuntime) {
-    let mut table = Table::new(rt.alloc());
-    must_run(
-        &rt,
-        &mut table,
-        &[
-            Len(0),
-            Get(70_000, None),
-            Remove(70_000, None),
-            Reserve(TABLE_LIMIT as usize), // room for as many as there may be
-            Len(0),
-            Register(70_000, finalizer(RegKind::Normal, 7, 8, 5), Ok((0, None))),
-            Register(70_064, finalizer(RegKind::NoOrder, 9, 10, 0), Ok((1, None))),
-            Register(
-                70_000,
-                finalizer(RegKind::IgnoreSelf, 11, 12, 255),
-                Ok((2, Some(Old { proc: 7, cd: 8 }))),
-            ),
-            Len(2),
-            Get(70_000, Some(REGISTRATION)),
-            Take(70_000, Some(REGISTRATION)),
-            Take(70_000, None),
-            Get(70_000, None),
-            Len(1),
-            // Numbers aren't reused.
-            Register(70_000, finalizer(RegKind::Normal, 1, 2, 0), Ok((3, None))),
-        ],
-    );
-}
-
-#[test]
-fn iterates_over_all(rt: HostRuntime) {
-    let mut table = Table::new(rt.alloc());
-    must_be(&rt, table.iter().next(), None, "none at first");
-    for object in 100_000..100_010u64 {
-        let answer = table.register(object, Finalizer::new(RegKind::Normal, object, 0, 0));
-        must_be(&rt, answer.is_ok(), true, "one of ten objects");
-    }
-    table.remove(100_003);
-
-    let registrations = table.iter();
-    must_be(&rt, registrations.len(), 9, "nine objects are left");
-    let hint = registrations.size_hint();
-    must_be(&rt, hint, (9, Some(9)), "nine to come");
-    let mut seen = [false; 10];
-    for (object, registration) in registrations {
-        must_be(&rt, registration.proc, object, "its procedure");
-        note_once(&rt, &mut seen, object.wrapping_sub(100_000));
-    }
-    let want = [true, true, true, false, true, true, true, true, true, true];
-    must_be(&rt, seen, want, "all objects but one");
 }
 
 /// An object above all the others.
@@ -148,6 +82,7 @@ fn holds_as_many_as_the_limit(rt: HostRuntime) {
                 finalizer(RegKind::Normal, 1, 2, 0),
                 Ok((TABLE_LIMIT + 1, None)),
             ),
+            Reserve(TABLE_LIMIT as usize),
         ],
     );
 }

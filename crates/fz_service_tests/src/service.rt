@@ -2,7 +2,6 @@
 //! call, that these run at the same time, and the results of whole services.
 
 mod bell;
-mod calls;
 mod eight;
 mod limits;
 mod lists;
@@ -173,15 +172,33 @@ fn takes_under_the_lock<O: Opening, R: Abort + Wait>(rt: &R, prepared: Prepared)
     same(rt, "the end's counts", counts, (2, 2, 2));
 }
 
-/// A shutdown without all seats fails and gives everything back; with all of them it succeeds. A cycle that is still open doesn't count as a pass.
+/// A shutdown with all seats succeeds. A cycle that is still open doesn't count as a pass.
+fn ends_with_the_second<O: Opening, R: Abort + Wait>(
+    rt: &R,
+    service: Service<O>,
+    mut seats: Vec<Seat<O>>,
+    second: Seat<O>,
+) {
+    let second = finish_next(rt, &service, second, 0);
+    put_back(rt, &mut seats, second);
+    let end = ended(rt, service, seats);
+    let counts = (end.enqueued, end.taken, end.finished, end.forfeited);
+    same(rt, "the end's counts", counts, (1, 1, 1, 0));
+    let rest = (end.left.len(), end.passes, end.reclaimed);
+    same(rt, "left, passes and reclaimed", rest, (0, 1, 0));
+}
+
+/// A shutdown without all seats fails and gives everything back.
 fn ends_with_all_seats<O: Opening, R: Abort + Wait>(rt: &R, prepared: Prepared)
     requires { prepared ≡ O.origin }
 {
     let (service, mut seats) = opened::<O>(rt, prepared);
-    make_and_drop(rt, &mut service.enter(rt));
-    accepted(rt, "collect", service.enter(rt).collect());
-    make_and_drop(rt, &mut service.enter(rt));
-    accepted(rt, "begin", service.enter(rt).begin());
+    let mut locked = service.enter(rt);
+    make_and_drop(rt, &mut locked);
+    accepted(rt, "collect", locked.collect());
+    make_and_drop(rt, &mut locked);
+    accepted(rt, "begin", locked.begin());
+    drop(locked);
     count_seats(rt, seats.as_slice(), 2);
     let second = seats.remove(1);
     match service.shutdown(seats) {
@@ -189,15 +206,9 @@ fn ends_with_all_seats<O: Opening, R: Abort + Wait>(rt: &R, prepared: Prepared)
             second.retire();
             panic!(rt; "a seat is missing")
         }
-        Err((error, service, mut seats)) => {
+        Err((error, service, seats)) => {
             same(rt, "the refusal", error.refusal(), Refusal::SeatsMissing);
-            let second = finish_next(rt, &service, second, 0);
-            put_back(rt, &mut seats, second);
-            let end = ended(rt, service, seats);
-            let counts = (end.enqueued, end.taken, end.finished, end.forfeited);
-            same(rt, "the end's counts", counts, (1, 1, 1, 0));
-            let rest = (end.left.len(), end.passes, end.reclaimed);
-            same(rt, "left, passes and reclaimed", rest, (0, 1, 0));
+            ends_with_the_second(rt, service, seats, second);
         }
     }
 }

@@ -84,10 +84,12 @@ fn lends_the_world<O: Opening, R: Abort + Wait>(rt: &R, prepared: Prepared)
     requires { prepared ≡ O.origin }
 {
     let (service, mut seats) = opened::<O>(rt, prepared);
-    make_and_drop(rt, &mut service.enter(rt));
-    let passed = service.enter(rt).with_world(|world| collects_alone(world));
+    let mut locked = service.enter(rt);
+    make_and_drop(rt, &mut locked);
+    let passed = locked.with_world(|world| collects_alone(world));
     same(rt, "picked", passed.map(|passed| passed.picked), Ok(1));
-    same(rt, "not sent", service.enter(rt).outbox().len(), 0);
+    same(rt, "not sent", locked.outbox().len(), 0);
+    drop(locked);
     count_seats(rt, seats.as_slice(), 2);
     let other = seats.remove(1);
     match service.conclude(seats) {

@@ -82,12 +82,14 @@ fn finish_two<O: Opening, R: Abort + Wait>(
     same(rt, "the second entry", *second.entry(), SECOND);
     makes(rt, &mut service.enter(rt), 3, 3, (65_667, 3));
     let first = must_finish(rt, service, first);
-    collects(rt, &mut service.enter(rt), 3, 0, 1);
-    makes(rt, &mut service.enter(rt), 4, 3, (65_664, 4));
-    let finished = service.enter(rt).hold(0, 5, &FIRST);
+    let mut locked = service.enter(rt);
+    collects(rt, &mut locked, 3, 0, 1);
+    makes(rt, &mut locked, 4, 3, (65_664, 4));
+    let finished = locked.hold(0, 5, &FIRST);
     same(rt, "a hold after a finish", finished, Err(Refusal::NotHeld));
-    let held = service.enter(rt).hold(0, 5, second.entry());
+    let held = locked.hold(0, 5, second.entry());
     same(rt, "a hold before a finish", held, Ok(()));
+    drop(locked);
     let second = must_finish(rt, service, second);
     collects(rt, &mut service.enter(rt), 4, 0, 0);
     (first, second)

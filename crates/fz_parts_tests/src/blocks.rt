@@ -1,4 +1,0 @@
-//! Tests of blocks.
-
-mod calls;
-mod tests;

@@ -1,4 +1,0 @@
-//! Tests of a heap.
-
-mod calls;
-mod tests;
