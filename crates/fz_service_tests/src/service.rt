@@ -18,8 +18,8 @@ mod workers;
 ghost use Rattle.std.specs.Prelude.{◌≡◌};
 
 use fz_model::ObjKind::Scanned;
+use fz_model::Refusal;
 use fz_model::RegKind::Normal;
-use fz_model::{Passed, Refusal};
 use fz_service::{Duty, Final, Locked, Opening, Prepared, Seat, Service, Take};
 use fz_world::Config;
 use std::alloc::Global;
@@ -213,59 +213,6 @@ fn ends_with_all_seats<O: Opening, R: Abort + Wait>(rt: &R, prepared: Prepared)
     }
 }
 
-/// A world that is closed in an open cycle queues nothing.
-fn closes_in_a_cycle<O: Opening, R: Abort + Wait>(rt: &R, prepared: Prepared)
-    requires { prepared ≡ O.origin }
-{
-    let (service, seats) = opened::<O>(rt, prepared);
-    let mut locked = service.enter(rt);
-    make_and_drop(rt, &mut locked);
-    accepted(rt, "begin", locked.begin());
-    accepted(rt, "close", locked.close());
-    let passed = Passed {
-        pass: 1,
-        picked: 0,
-        reclaimed: 0,
-    };
-    same(rt, "pause", locked.pause(), Ok(passed));
-    same(rt, "a second close", locked.close(), Err(Refusal::Closed));
-    drop(locked);
-    let end = ended(rt, service, seats);
-    let counts = (end.enqueued, end.left.len(), end.passes);
-    same(rt, "queued, left and passes", counts, (0, 0, 1));
-}
-
-/// An allocation that finds no room collects, sends the queued entries and succeeds. If the collection frees nothing, it fails.
-fn collects_for_space<O: Opening, R: Abort + Wait>(rt: &R, prepared: Prepared)
-    requires { prepared ≡ O.origin }
-{
-    let (service, seats) = opened::<O>(rt, prepared);
-    let mut locked = service.enter(rt);
-    make_and_drop(rt, &mut locked);
-    accepted(rt, "alloc", locked.alloc(0, 0, 192, Scanned));
-    accepted(rt, "set", locked.set(0, 0, 0));
-    let full = locked.alloc(0, 0, 192, Scanned);
-    same(rt, "before it collects", full, Err(Refusal::NoSpace));
-    let made = locked.alloc_or_collect(0, 0, 192, Scanned);
-    same(rt, "address and birth", made, Ok((65_600, 2)));
-    let full = locked.alloc_or_collect(0, 1, 192, Scanned);
-    same(rt, "what is led to", full, Err(Refusal::NoSpace));
-    let counts = (locked.queue().len(), locked.outbox().len());
-    same(rt, "queued and not sent", counts, (1, 0));
-    accepted(rt, "begin", locked.begin());
-    let in_cycle = locked.alloc_or_collect(0, 1, 192, Scanned);
-    same(rt, "in an open cycle", in_cycle, Err(Refusal::CycleOpen));
-    let passed = Passed {
-        pass: 3,
-        picked: 0,
-        reclaimed: 0,
-    };
-    same(rt, "pause", locked.pause(), Ok(passed));
-    drop(locked);
-    let end = ended(rt, service, seats);
-    same(rt, "passes", end.passes, 3);
-}
-
 #[test]
 fn takes_need_no_lock(rt: HostRuntime) {
     let prepared = prepared(&rt, rt.alloc(), 1);
@@ -276,16 +223,4 @@ fn takes_need_no_lock(rt: HostRuntime) {
 fn a_missing_seat_is_refused(rt: HostRuntime) {
     let prepared = prepared(&rt, rt.alloc(), 2);
     ends_with_all_seats::<Brand, HostRuntime>(&rt, prepared);
-}
-
-#[test]
-fn a_closed_world_queues_nothing(rt: HostRuntime) {
-    let prepared = prepared(&rt, rt.alloc(), 1);
-    closes_in_a_cycle::<Brand, HostRuntime>(&rt, prepared);
-}
-
-#[test]
-fn an_allocation_collects(rt: HostRuntime) {
-    let prepared = prepared(&rt, rt.alloc(), 1);
-    collects_for_space::<Brand, HostRuntime>(&rt, prepared);
 }
