@@ -12,7 +12,7 @@ mod refused;
 mod rows;
 mod stops;
 mod threads;
-mod wanted;
+pub(crate) mod wanted;
 mod workers;
 
 ghost use Rattle.std.specs.Prelude.{◌≡◌};

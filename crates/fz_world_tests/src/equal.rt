@@ -17,3 +17,14 @@ pub(crate) fn at<T: Copy>(rt: &impl Abort, list: &[T], place: usize) -> T {
 pub(crate) fn push<T: Drop>(rt: &impl Abort, list: &mut Vec<T>, element: T) {
     list.push(element).expect(rt, "memory");
 }
+
+/// Records a number, which has to have an index in `seen` and may occur only once.
+pub(crate) fn note_once(rt: &impl Abort, seen: &mut [bool], number: u64) {
+    match seen.get_mut(number as usize) {
+        Some(is_seen) => {
+            must_be(rt, *is_seen, false, "a number that comes once");
+            *is_seen = true;
+        }
+        None => panic!(rt; "{number} is outside"),
+    }
+}

@@ -1,9 +1,12 @@
-//! Tests of a world, and of other hosts that run beside it. They have a crate of their own, as the tests of the libraries below have.
+//! Tests of a world, of the libraries below it, and of other hosts that run beside it. They have a crate of their own: a crate with tests is proved twice, and each
+//! crate of tests takes a minute or two to load its dependencies.
 #![tactic(auto)]
 
 #[cfg(test)]
 mod equal;
 #[cfg(test)]
 mod hosts;
+#[cfg(test)]
+mod parts;
 #[cfg(test)]
 mod world;

@@ -1,13 +1,13 @@
-//! Tests of a heap with finalizers.
+//! What collections of a heap with finalizers leave.
 
 use crate::equal::must_be;
 use crate::hosts::heaps::{
     add_root, exists, fields, finish, heap_with, leads_to, link, made, picks, register,
     remove_root, taken, write,
 };
-use fz_finalizers::{Entry, Finalizer, Kind, LinkKind, MoveAnswer, Old, Refused};
+use fz_finalizers::{Entry, Finalizer, Kind, LinkKind};
 use own_heap::Field::{Hidden, Nothing, Number, Reference};
-use own_heap::{FIELDS, OUTSIDE, RecordId, Runtime};
+use own_heap::{OUTSIDE, RecordId, Runtime};
 use std::process::Abort;
 use std::test::*;
 
@@ -93,69 +93,4 @@ fn a_link_outside_of_the_heap_lives_as_long_as_its_record(rt: HostRuntime) {
     remove_root(&rt, &mut runtime, leaf);
     picks(&rt, &mut runtime, 0, "a link isn't queued");
     outside_leads_to(&rt, &runtime, None, "it goes, too");
-}
-
-/// Removes a record's registration, and compares the answer.
-fn unregisters(
-    rt: &impl Abort,
-    runtime: &mut Runtime,
-    id: RecordId,
-    want: Option<Old>,
-    what: &str,
-) {
-    must_be(rt, runtime.unregister(id), want, what);
-}
-
-#[test]
-fn a_registration_is_removed_once(rt: HostRuntime) {
-    let mut runtime = heap_with(&rt, rt.alloc(), 8);
-    let leaf = made(&rt, &mut runtime, [Nothing; FIELDS]);
-    unregisters(&rt, &mut runtime, leaf, None, "it has none");
-    register(&rt, &mut runtime, leaf, normal(5));
-    let old = Some(Old { proc: 5, cd: 0 });
-    unregisters(&rt, &mut runtime, leaf, old, "its own");
-    unregisters(&rt, &mut runtime, leaf, None, "once");
-    picks(&rt, &mut runtime, 0, "no finalizer");
-    exists(&rt, &runtime, leaf, false, "it is gone");
-}
-
-/// Moves a link, and compares the answer.
-fn moves(
-    rt: &impl Abort,
-    runtime: &mut Runtime,
-    kind: LinkKind,
-    (word, to): (u64, u64),
-    want: Result<MoveAnswer, Refused>,
-) {
-    must_be(rt, runtime.move_link(kind, word, to), want, "a move");
-}
-
-/// Removes a link, and compares the answer.
-fn unlinks(rt: &impl Abort, runtime: &mut Runtime, kind: LinkKind, word: u64, was: bool) {
-    must_be(rt, runtime.unlink(kind, word), was, "whether there was one");
-}
-
-#[test]
-fn a_link_moves_and_goes(rt: HostRuntime) {
-    let mut runtime = heap_with(&rt, rt.alloc(), 8);
-    let leaf = made(&rt, &mut runtime, [Nothing; FIELDS]);
-    let stem = made(&rt, &mut runtime, [Nothing; FIELDS]);
-    let (from, other) = (stem.word(1), leaf.word(1));
-    let (short, long) = (LinkKind::Short, LinkKind::Long);
-    link(&rt, &mut runtime, short, from, leaf);
-    link(&rt, &mut runtime, short, other, stem);
-    let refused = Err(Refused::Zero);
-    moves(&rt, &mut runtime, short, (from, 0), refused);
-    let none = Ok(MoveAnswer::NotFound);
-    moves(&rt, &mut runtime, long, (from, OUTSIDE), none);
-    let duplicate = Ok(MoveAnswer::Duplicate);
-    moves(&rt, &mut runtime, short, (from, other), duplicate);
-    let moved = Ok(MoveAnswer::Success);
-    moves(&rt, &mut runtime, short, (from, OUTSIDE), moved);
-    leads_to(&rt, &runtime, (short, from), None, "it left");
-    let target = Some(leaf.address());
-    leads_to(&rt, &runtime, (short, OUTSIDE), target, "the same target");
-    unlinks(&rt, &mut runtime, long, OUTSIDE, false);
-    unlinks(&rt, &mut runtime, short, OUTSIDE, true);
-    unlinks(&rt, &mut runtime, short, OUTSIDE, false);
 }

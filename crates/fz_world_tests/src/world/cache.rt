@@ -1,4 +1,4 @@
-//! A weak cache with 1,000 keys, and requests that fail.
+//! A weak cache with 1,000 keys.
 
 use crate::equal::must_be;
 use fz_model::{Addr, BLOCK_WORDS, HEAP_START, Passed, Refusal};
@@ -93,47 +93,5 @@ fn a_thousand_keys(rt: HostRuntime) -> Result<(), Refusal> {
     cache.finish(&last)?;
     collects(&rt, &mut cache, 4, 0, 1);
     fill(&rt, &mut cache);
-    Ok(())
-}
-
-/// Blocks and keys, and the error for them.
-const REFUSED: [(u64, u64, Refusal); 5] = [
-    (0, 1, Refusal::BadCount),
-    (4_097, 1, Refusal::BadCount),
-    (1, 0, Refusal::BadSize),
-    (4_096, 1_025, Refusal::BadSize),
-    (BLOCKS - 1, KEYS, Refusal::NoSpace),
-];
-
-#[test]
-fn openings_are_refused(rt: HostRuntime) {
-    for (blocks, keys, want) in REFUSED {
-        let refusal = Cache::open(rt.alloc(), blocks, keys).err();
-        must_be(&rt, refusal, Some(want), "the refusal");
-    }
-}
-
-/// A heap with one block in addition to the list has room for 64 objects.
-#[test]
-fn a_full_heap_refuses_objects(rt: HostRuntime) -> Result<(), Refusal> {
-    let mut cache = Cache::open(rt.alloc(), BLOCKS + 1, KEYS)?;
-    must_be(
-        &rt,
-        cache.put(0),
-        Err(Refusal::NotPointer),
-        "nothing in hand",
-    );
-    for key in 0..BLOCK_WORDS {
-        cache.make(key)?;
-        cache.put(key)?;
-    }
-    must_be(
-        &rt,
-        cache.make(BLOCK_WORDS),
-        Err(Refusal::NoSpace),
-        "one more",
-    );
-    cache.let_go()?;
-    collects(&rt, &mut cache, 1, BLOCK_WORDS, 0);
     Ok(())
 }

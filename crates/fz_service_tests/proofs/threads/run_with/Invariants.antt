@@ -1,0 +1,7 @@
+use Rattle.fz_service_tests.proofs.threads.run_with.Given as goal
+
+abbrev pub ghosts-run_counted-I-Ledger : goal.ghosts-run_counted-I-Ledger
+ghosts-run_counted-I-Ledger g a = record { name = a.input.name; parts = a.input.parts }
+
+abbrev pub ghosts-run_counted-O-Ledger : goal.ghosts-run_counted-O-Ledger
+ghosts-run_counted-O-Ledger g a = record { name = a.output.name; parts = a.output.parts }
