@@ -1,9 +1,5 @@
-//! Tests of the service, of runs of scripts, and of whole threads files.
+//! Tests of the service.
 #![tactic(auto)]
 
 #[cfg(test)]
-mod drive;
-#[cfg(test)]
 mod service;
-#[cfg(test)]
-mod threads;

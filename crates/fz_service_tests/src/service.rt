@@ -12,7 +12,7 @@ mod refused;
 mod rows;
 mod stops;
 mod threads;
-pub(crate) mod wanted;
+mod wanted;
 mod workers;
 
 ghost use Rattle.std.specs.Prelude.{◌≡◌};

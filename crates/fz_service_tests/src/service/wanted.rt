@@ -7,7 +7,7 @@ use fz_service::{Locked, Opening, Seat};
 use std::fmt::Debug;
 use std::process::Abort;
 
-/// Two equal values. A number in them says which case it is: a text with a number takes longer to prove.
+/// Two equal values.
 pub(crate) fn same<T: PartialEq + Debug + Drop>(rt: &impl Abort, what: &str, got: T, want: T) {
     assert_eq!(rt; got, want, "{what}");
 }

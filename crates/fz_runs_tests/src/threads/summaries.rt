@@ -3,7 +3,7 @@
 use super::files::{ALL_ACTORS, MUTATORS_AND_COLLECTOR, ROWS};
 use super::wanted::{prints, runs_rows};
 use super::{FreeRow, Outcome, joined, run};
-use crate::service::wanted::same;
+use crate::equal::must_be;
 use fz_runs::WHOLE;
 use std::alloc::AllocError;
 use std::process::Abort;
@@ -39,7 +39,7 @@ fn always_fits<R: AllocGlobal + Abort + Threads + Wait + Sync>(
     for round in 0..20u64 {
         let outcome = run(rt, row.file)?;
         let found = (round, fits(&outcome, row));
-        same(rt, "the round, and whether it fits", found, (round, true));
+        must_be(rt, found, (round, true), "the round, and whether it fits");
     }
     Ok(())
 }

@@ -1,4 +1,4 @@
-use Rattle.fz_service_tests.proofs.drive.tests.run.Given as goal
+use Rattle.fz_runs_tests.proofs.drive.tests.run.Given as goal
 
 abbrev pub ghosts-run_counted-I-Ledger : goal.ghosts-run_counted-I-Ledger
 ghosts-run_counted-I-Ledger a = record { name = a.input.name; parts = a.input.parts }

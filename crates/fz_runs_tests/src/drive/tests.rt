@@ -7,7 +7,7 @@ use crate::drive::scripts::{
     DROPPED_IN_A_CYCLE, DROPPED_IN_A_CYCLE_OTHERWISE, FIRST_SMALL, LARGE, LAST_SMALL, ONE_OBJECT,
     TWO_IN_ORDER,
 };
-use crate::service::wanted::same;
+use crate::equal::must_be;
 use arrayvec::ArrayVec;
 use fz_model::{MAX_BLOCKS, MAX_FRAMES, MAX_WORKERS, Refusal};
 use fz_runs::{
@@ -87,28 +87,28 @@ fn first_lines(bytes: &[u8], count: usize) -> &[u8] {
 /// Fails the test if a run has another report.
 fn must_report(rt: &impl Abort, outcome: &Outcome, report: &[u8], row: usize) {
     let found = (row, outcome.text.as_slice());
-    same(rt, "the row and its report", found, (row, report));
+    must_be(rt, found, (row, report), "the row and its report");
 }
 
 /// Fails the test if a run ends in another way.
 fn must_end(rt: &impl Abort, outcome: &Outcome, end: Result<Summary, DriveFault>, row: usize) {
     let is_right = outcome.result == end;
-    same(
+    must_be(
         rt,
-        "the row, and whether it ends so",
         (row, is_right),
         (row, true),
+        "the row, and whether it ends so",
     );
 }
 
 /// Fails the test if a condition doesn't hold.
 fn must_hold(rt: &impl Abort, holds: bool, row: usize, place: usize) {
     let found = (row, place, holds);
-    same(
+    must_be(
         rt,
-        "the row, the place, and whether it holds",
         found,
         (row, place, true),
+        "the row, the place, and whether it holds",
     );
 }
 

@@ -2,7 +2,7 @@
 
 ghost use Rattle.std.specs.Prelude.{◌≡◌};
 
-use crate::service::wanted::same;
+use crate::equal::must_be;
 use fz_runs::{Failures, MemorySource, Pieces, drive_sections};
 use fz_service::{Opening, Prepared, Service, retire_all};
 use fz_world::Config;
@@ -56,7 +56,7 @@ fn takes<R: AllocGlobal + Abort + Threads + Wait + Sync>(
             holds = holds_over(rt, frames, file);
         }
     }
-    same(rt, "holds", holds, wanted);
+    must_be(rt, holds, wanted, "holds");
 }
 
 /// How many runs of a file there are at most.

@@ -1,17 +1,23 @@
 //! Assertions that fail a test and say which result was wrong. An assertion is proved again wherever it occurs, so those that several tests need are here.
 
 use super::{Outcome, Row, run_within};
-use crate::service::wanted::same;
+use crate::equal::must_be;
+use fz_model::Refusal;
 use fz_runs::{DriveFault, Limits};
 use std::alloc::AllocError;
 use std::process::Abort;
 use std::sync::Wait;
 use std::thread::Threads;
 
+/// The call has to succeed.
+pub(crate) fn accepted<T: Drop>(rt: &impl Abort, what: &str, answer: Result<T, Refusal>) {
+    assert!(rt; answer.is_ok(), "{what} is refused");
+}
+
 /// The run has to write this text.
 pub(crate) fn prints(rt: &impl Abort, what: &str, number: u64, outcome: &Outcome, text: &[u8]) {
     let found = (number, outcome.text.as_slice());
-    same(rt, what, found, (number, text));
+    must_be(rt, found, (number, text), what);
 }
 
 /// The run has to have this result.
@@ -22,7 +28,7 @@ pub(crate) fn ends(
     outcome: &Outcome,
     end: Result<(), DriveFault>,
 ) {
-    same(rt, what, (number, outcome.result), (number, end));
+    must_be(rt, (number, outcome.result), (number, end), what);
 }
 
 /// The run has to write this text and to have this result.
@@ -49,7 +55,7 @@ pub(crate) fn runs_row<R: AllocGlobal + Abort + Threads + Wait + Sync>(
     let outcome = run_within(rt, row.file, limits)?;
     prints(rt, "row", place as u64, &outcome, row.text);
     let found = (place, outcome.result.err());
-    same(rt, "the row and its fault", found, (place, row.fault));
+    must_be(rt, found, (place, row.fault), "the row and its fault");
     Ok(())
 }
 

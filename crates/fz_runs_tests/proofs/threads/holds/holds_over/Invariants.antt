@@ -1,4 +1,4 @@
-use Rattle.fz_service_tests.proofs.threads.holds.holds_over.Given as goal
+use Rattle.fz_runs_tests.proofs.threads.holds.holds_over.Given as goal
 
 abbrev pub ghosts-holds_of-O-Opening : goal.ghosts-holds_of-O-Opening
 ghosts-holds_of-O-Opening g a = record { origin = a.prepared }

@@ -1,7 +1,8 @@
 //! The procedures of threads files: what they do, and which of them workers call.
 
+use super::wanted::accepted;
 use super::{Outcome, run_with};
-use crate::service::wanted::{accepted, same};
+use crate::equal::must_be;
 use fz_model::Entry;
 use fz_model::ObjKind::Scanned;
 use fz_model::RegKind::Normal;
@@ -16,7 +17,7 @@ use std::test::Fail;
 
 /// The only entry of the queue.
 fn only(rt: &impl Abort, queue: &[Entry]) -> Entry {
-    same(rt, "entries", queue.len(), 1);
+    must_be(rt, queue.len(), 1, "entries");
     queue.first().copied().expect(rt, "an entry")
 }
 
@@ -43,13 +44,13 @@ fn after<P: Proc>(rt: &impl Abort, alloc: Global, mut procedure: P) -> (World, u
 #[test]
 fn procedure_0_does_nothing(rt: HostRuntime) {
     let (_world, reclaimed) = after(&rt, rt.alloc(), Nothing);
-    same(&rt, "reclaimed", reclaimed, 1);
+    must_be(&rt, reclaimed, 1, "reclaimed");
 }
 
 #[test]
 fn procedure_1_keeps_the_object_in_the_last_slot_of_the_first_frame(rt: HostRuntime) {
     let (mut world, reclaimed) = after(&rt, rt.alloc(), Keep);
-    same(&rt, "reclaimed", reclaimed, 0);
+    must_be(&rt, reclaimed, 0, "reclaimed");
     accepted(&rt, "load", world.load(0, 15, 0, 0, 0));
 }
 
@@ -104,7 +105,7 @@ const ALL_FINISHED: &[u8] = b"enqueued 55\nfinished 55\nforfeited 0\nleft 0\npas
 
 fn finishes_all(rt: &impl Abort, outcome: &Outcome) {
     let finished = outcome.text.as_slice().starts_with(ALL_FINISHED);
-    same(rt, "all entries are finished", finished, true);
+    must_be(rt, finished, true, "all entries are finished");
 }
 
 /// Both workers have the two procedures, so it doesn't matter which of them takes an entry.
@@ -116,8 +117,8 @@ fn each_entry_has_its_procedure_called_once(rt: HostRuntime) -> Result<(), Fail>
         procedures!(rt.alloc(); 2u64; Counted(Arc::try_clone(&zero)?), Counted(Arc::try_clone(&one)?));
     let outcome = run_with(&rt, THREE_PROCEDURES, WHOLE, procs);
     finishes_all(&rt, &outcome);
-    same(&rt, "calls of procedure 0", zero.counts(), (30, 30));
-    same(&rt, "calls of procedure 1", one.counts(), (20, 20));
+    must_be(&rt, zero.counts(), (30, 30), "calls of procedure 0");
+    must_be(&rt, one.counts(), (20, 20), "calls of procedure 1");
     Ok(())
 }
 
