@@ -2,10 +2,10 @@
  * and C++17 and later.
  *
  * A derrimas_finalizers holds registrations of objects, short and long disappearing links, ephemerons, cleanups of objects,
- * and the entries of finalizers and cleanups that are ready. Objects, words, procedures and client data are numbers of 64 bits,
- * which are compared and returned, and never dereferenced. An object is any number but 0 by which the host finds it: its
- * address, an address that is hidden by a map that keeps the order, or an index. What is proved of a pass assumes that an
- * object with the number a and n words has the numbers from a to a + n - 1 to itself. Addresses meet this. The word of a link
+ * and the entries of finalizers and cleanups that are ready. Objects, words, procedures and client data are numbers of 64
+ * bits, which are compared and returned, and never dereferenced. An object is any number but 0 by which the host finds it:
+ * its address, an index, or its address under a map that keeps the order. What is proved of a pass assumes that an object of
+ * n words has the n numbers from its own on, and that no two objects share a number. Addresses meet this. The word of a link
  * or of an ephemeron is any number but 0 by which the host finds it: its address, or an object's number with an offset. Each
  * word has one number, which may also be that of an object. A host whose marker scans the stack for what looks like an
  * address hides all of these by the same map, since questions and entries are on the stack.
@@ -39,14 +39,13 @@
  * - A signal handler may call only derrimas_finalizers_has_waiting. A forked child has a copy of each handle: it may use one
  *   if no other thread was in a call on it at the fork, for example if the fork happens under the host's lock.
  * - Before the host frees, reuses or moves the memory of the word of a link or an ephemeron, it unlinks or moves the link,
- *   or ends or moves the ephemeron. A word whose number stays when its memory moves needs no call. A pass has the host write
- *   to the word of each one that it clears, even if no object has the word. When a pass has ended, it has removed the links
- *   and ephemerons whose words lie in objects that it left unmarked: these words may be freed without further calls.
- * - Before the host reclaims an object at any other time than after a pass that left it unmarked, it removes the object's
- *   registration, the links to it, the ephemerons whose key it is and its cleanups. A pass asks whether the object is
- *   marked, and a new object of the same number would inherit them. When a pass has ended, an object that it left unmarked
- *   has none of these any more. Only after a pass by .._begin_from may it still have a registration or cleanups, those with
- *   numbers lower than `from`.
+ *   or ends or moves the ephemeron. A word whose number stays when its memory moves needs no call. A pass asks the host to
+ *   write zero to each word that it clears, including words that lie in no object. When a pass has ended, it has removed the
+ *   links and ephemerons whose words lie in objects that it left unmarked: these words may be freed without further calls.
+ * - Before the host reclaims an object other than after a pass that left it unmarked, it removes the object's registration
+ *   and cleanups, the links to it, and the ephemerons whose key it is. Otherwise a new object with the same number inherits
+ *   them. A pass that has ended has removed all of these of each object that it left unmarked. Only a pass by .._begin_from
+ *   leaves registrations and cleanups with numbers below `from`.
  *
  * Only derrimas_finalizers_open, .._reserve, .._shrink, .._register, .._link, .._ephemeron, .._add_cleanup, .._why, .._stuck
  * and, with the option `live`, .._move_link allocate, by the handle's allocator; only these and .._destroy free. All other
@@ -64,10 +63,10 @@
  *
  * A call uses at most 16 KB of the stack, besides what the host's functions use.
  *
- * Unless a comment says otherwise a call takes constant time: .._register, .._link, .._ephemeron and .._add_cleanup
- * amortized over the growth of tables, .._move_link over as many moves as there are links of its kind, .._move_ephemeron
- * over as many as there are ephemerons. A single call that enlarges a table takes time proportional to the table. .._reserve
- * enlarges the tables of registrations and links beforehand. */
+ * Unless a comment says otherwise a call takes constant expected time, since the tables are hash maps without a seed:
+ * .._register, .._link, .._ephemeron and .._add_cleanup amortized over the growth of tables, .._move_link over as many moves
+ * as there are links of its kind, .._move_ephemeron over as many as there are ephemerons. A single call that enlarges a
+ * table takes time proportional to the table. .._reserve enlarges the tables of registrations and links beforehand. */
 #ifndef DERRIMAS_FINALIZERS_H
 #define DERRIMAS_FINALIZERS_H
 
@@ -107,11 +106,12 @@ typedef enum derrimas_finalizers_code {
  * .._unreachable. No pass queues an object of kind NORMAL or UNREACHABLE that reaches itself by any path, or an object of
  * kind IGNORE_SELF that reaches itself through another object. */
 typedef enum derrimas_finalizers_kind {
-    DERRIMAS_FINALIZERS_NORMAL = 0,      /* no unreachable registered object reaches it, not even itself; one of kind
-                                          * NO_ORDER doesn't count */
-    DERRIMAS_FINALIZERS_IGNORE_SELF = 1, /* the same, but words of the object that point to itself don't count */
-    DERRIMAS_FINALIZERS_NO_ORDER = 2,    /* the object's own references don't count; others that reach it come first */
-    DERRIMAS_FINALIZERS_UNREACHABLE = 3  /* as NORMAL, but those of kind NO_ORDER count too */
+    DERRIMAS_FINALIZERS_NORMAL = 0,      /* ready if no unreachable registered object reaches it, not even itself; one of
+                                          * kind NO_ORDER doesn't delay it */
+    DERRIMAS_FINALIZERS_IGNORE_SELF = 1, /* the same, but words of the object that point to itself don't delay it */
+    DERRIMAS_FINALIZERS_NO_ORDER = 2,    /* as NORMAL, but its own references delay no object of another kind than
+                                          * UNREACHABLE, and not itself */
+    DERRIMAS_FINALIZERS_UNREACHABLE = 3  /* as NORMAL, but objects of kind NO_ORDER that reach it delay it too */
 } derrimas_finalizers_kind;
 
 /* The kinds of links and the answers about them, which are those of derrimas_common.h, under names of this header. An
@@ -132,12 +132,13 @@ typedef derrimas_link_answer derrimas_finalizers_linked;
 
 /* ---- types */
 
-/* What a handle is opened with. `size` is sizeof(derrimas_finalizers_options), by which the library knows which fields
- * there are; those that a smaller struct of an older header lacks are 0. Either all three functions of the allocator are
- * given, or none, and then memory is the C library's. With `marks` a pass asks about registered objects, targets of links
- * and objects of cleanups by regions, with DERRIMAS_ASK_MARKS: for a host whose marks of neighbouring objects lie together,
- * so that one word has those of many. With `live` it asks by regions whether the objects that have the words of links are
- * marked, with DERRIMAS_ASK_LIVE. Each may be chosen without the other. */
+/* What a handle is opened with. `size` is sizeof(derrimas_finalizers_options), by which the library knows which fields there
+ * are; those that a smaller struct of an older header lacks are 0. Either all three functions of the allocator are given, or
+ * none, and then memory is the C library's. With `marks` a pass asks about registered objects, targets of links and objects
+ * of cleanups by regions, with DERRIMAS_ASK_MARKS: for a host whose marks of neighbouring objects lie together, so that one
+ * word has those of many. With `live` it asks by regions whether the objects that have the words of links are marked, with
+ * DERRIMAS_ASK_LIVE. Each may be chosen without the other. The library *notes* each such object and word in a table of
+ * regions. */
 typedef struct derrimas_finalizers_options {
     size_t size;
     derrimas_allocator allocator;
@@ -228,10 +229,11 @@ typedef enum derrimas_ask {
                                         * object of such a question may have marked the object itself */
     DERRIMAS_ASK_MARK_OTHERS = 3,      /* the same, but without the words that point to the object itself */
     DERRIMAS_ASK_MARK = 4,             /* mark the object, which may be marked already, and all that it reaches; its entry is
-                                        * queued once the objects of all entries are marked */
-    DERRIMAS_ASK_MARK_ALONE = 5,       /* mark the object; all else that it reaches is marked already; its entry is queued
-                                        * likewise, or at once if it is of kind UNREACHABLE. A host that copies marked objects
-                                        * also updates the words of the copy */
+                                        * queued once all objects that the pass queues are marked, except those of kind
+                                        * UNREACHABLE */
+    DERRIMAS_ASK_MARK_ALONE = 5,       /* mark the object; all else that it reaches is marked already; its entry is queued as
+                                        * after MARK, but that of an object of kind UNREACHABLE at once. A host that copies
+                                        * marked objects also updates the words of the copy */
     DERRIMAS_ASK_CLEAR = 6,            /* write zero to the word; its link or ephemeron is removed, but not a link of the
                                         * other kind at the same word */
     DERRIMAS_ASK_HOLDER_IS_MARKED = 7, /* is the object that contains the word marked, or does no object contain it? if the
@@ -256,8 +258,8 @@ typedef enum derrimas_ask {
  *   value.
  * - All others are commands, whose answers are ignored.
  *
- * Nothing else reads or writes `marks`. A number that is no multiple of 16 is in a region that begins at no multiple of 16.
- * So what[j] of a region need be no object, no word and no multiple of 16, and may be 0. */
+ * Nothing else reads or writes `marks`. The first number of a region need not be that of an object or a word, and may be 0.
+ * It is a multiple of 16 exactly if the numbers of the objects and words in the region are. */
 typedef struct derrimas_question {
     uint64_t what[DERRIMAS_FINALIZERS_BATCH];
     uint64_t count;
@@ -275,8 +277,8 @@ DERRIMAS_CHECKED derrimas_finalizers_code derrimas_finalizers_open(derrimas_fina
                                                                    const derrimas_finalizers_options *options)
     DERRIMAS_NONNULL(1);
 
-/* Frees all that the handle has, by its allocator, and leaves it as {0}. No procedure runs: entries that wait or are held are
- * lost. A pass may be open. Does nothing if the handle isn't open. */
+/* Frees all that the handle has, by its allocator, and leaves it as {0}. No procedure runs: entries that wait or are held
+ * are lost. A pass may be open. Does nothing if the handle isn't open. */
 void derrimas_finalizers_destroy(derrimas_finalizers *finalizers) DERRIMAS_NONNULL(1);
 
 /* Makes room for the given numbers of further registrations and links. Until that room is used up, or .._shrink is called,
@@ -290,9 +292,9 @@ DERRIMAS_CHECKED derrimas_finalizers_code derrimas_finalizers_reserve(derrimas_f
 
 /* Frees the memory that registrations, links, ephemerons, cleanups and unfinished entries don't need, reserved room
  * included. If the allocator has no memory for a smaller table, the old one stays. No other call but .._destroy does this.
- * With the options `marks` and `live` it notes everything again that passes ask about by regions, if there is memory for
- * that: the regions of removed items are forgotten, and passes ask by regions again if memory for one had been lacking.
- * Takes time proportional to what there is.
+ * With the options `marks` and `live` it builds the tables of regions anew, if there is memory for that. Then regions
+ * without items are gone, and passes ask by regions again even if memory for one was lacking before. Takes time proportional
+ * to what there is.
  * Refused: NOT_OPEN, PASS_OPEN. */
 derrimas_finalizers_code derrimas_finalizers_shrink(derrimas_finalizers *finalizers) DERRIMAS_NONNULL(1);
 
@@ -300,10 +302,10 @@ derrimas_finalizers_code derrimas_finalizers_shrink(derrimas_finalizers *finaliz
 
 /* Registers a finalizer of the object, and replaces the one that it has, of any kind. An object has one: for several, let
  * the client data be a list that the procedure processes. `proc` and `cd` are any numbers, which the entry has too. Of the
- * registrations that one pass queues, those of kind UNREACHABLE come last; among these and among the others lower ranks
- * come first, and within a rank lower objects. *number, which may be NULL, is the number of the registration, which no
- * other and no cleanup has: the first number is 0. *old, which may be NULL, is what it replaced. A registration that replaces
- * another never fails with NO_MEMORY.
+ * registrations that one pass queues, those of kind UNREACHABLE come last; among these and among the others lower ranks come
+ * first, and within a rank lower objects. *number, which may be NULL, is the number of the registration, which no other and
+ * no cleanup has: the first number is 0. *old, which may be NULL, is what it replaced. A registration that replaces another
+ * never fails with NO_MEMORY.
  * Refused: BAD_KIND, NOT_OPEN, PASS_OPEN, ZERO, EXHAUSTED, FULL, NO_MEMORY. */
 DERRIMAS_CHECKED derrimas_finalizers_code
 derrimas_finalizers_register(derrimas_finalizers *finalizers, uint64_t object, derrimas_finalizers_kind kind, uint64_t proc,
@@ -336,8 +338,8 @@ derrimas_finalizers_code derrimas_finalizers_unlink(derrimas_finalizers *finaliz
 
 /* Moves the link of this kind from the word to the word `to`. The host copies what the word contains. *answer, which may be
  * NULL, is LINKED, also if both words are the same; or NOT_FOUND, or DUPLICATE if `to` has a link of this kind, and then
- * nothing changed. It takes no memory, except for a new region with the option `live`. A single move may rebuild the table, in
- * the memory that the table has, which takes time proportional to the links of the kind.
+ * nothing changed. It takes no memory, except for a new region with the option `live`. A single move may rebuild the table,
+ * in the memory that the table has, which takes time proportional to the links of the kind.
  * Refused: BAD_KIND, NOT_OPEN, PASS_OPEN, ZERO (of `to`). */
 derrimas_finalizers_code derrimas_finalizers_move_link(derrimas_finalizers *finalizers, derrimas_finalizers_link_kind kind,
                                                        uint64_t word, uint64_t to, derrimas_finalizers_linked *answer)
@@ -375,8 +377,8 @@ derrimas_finalizers_code derrimas_finalizers_move_ephemeron(derrimas_finalizers 
 
 /* Adds a cleanup to the object, which may have any number of them, registered or not. When the object is lost, an entry
  * without the object is queued: its obj is 0, and its reg is *number, which no other cleanup and no registration has, and
- * which may be 0. `number` may be NULL. The object isn't retained, so it may be reclaimed after the same pass. `proc` and `cd`
- * are any numbers, which the entry has too.
+ * which may be 0. `number` may be NULL. The object isn't retained, so it may be reclaimed after the same pass. `proc` and
+ * `cd` are any numbers, which the entry has too.
  *
  * A SHORT cleanup is due in a pass that finds the object unmarked, when short links to it are cleared. A LONG one is due in
  * a pass that leaves the object unmarked, so when no finalizer retains it either. A pass queues the SHORT ones before
@@ -408,11 +410,11 @@ derrimas_finalizers_code derrimas_finalizers_next_number(const derrimas_finalize
 derrimas_finalizers_code derrimas_finalizers_begin(derrimas_finalizers *finalizers) DERRIMAS_NONNULL(1);
 
 /* Opens a pass that looks only at registrations and cleanups whose numbers are at least `from`, for a young collection of a
- * host with generations. If the objects of all others are marked, it is the same pass as one that .._begin opens. So `from`
- * is a number that .._next_number returned before any object that may be unmarked now was registered or got a cleanup. If
- * an object with a lower number isn't marked, the pass doesn't ask about it, and its registration or cleanup stays; a
- * question about a region asks about all its places. Links and ephemerons are treated as in any pass. The tables of
- * registrations and cleanups are walked over as in any pass.
+ * host with generations. If the objects of all others are marked, it is the same pass as one that .._begin opens. Choose as
+ * `from` a number that .._next_number gave at a time when no object that may be unmarked now had a registration or a
+ * cleanup. Any lower number is right, too. If an object with a lower number isn't marked, the pass doesn't ask about it, and
+ * its registration or cleanup stays; a question about a region asks about all its places. Links and ephemerons are treated
+ * as in any pass. The tables of registrations and cleanups are walked over as in any pass.
  * Refused: NOT_OPEN, PASS_OPEN. */
 derrimas_finalizers_code derrimas_finalizers_begin_from(derrimas_finalizers *finalizers, uint64_t from) DERRIMAS_NONNULL(1);
 
@@ -428,10 +430,10 @@ derrimas_finalizers_code derrimas_finalizers_begin_from(derrimas_finalizers *fin
  * not to the list. Otherwise the pass walks over the list too, but sorts or asks about only what isn't marked.
  *
  * A pass asks three questions about an ephemeron whose key and object are marked: about each of these two, and to mark the
- * value. Then it asks nothing more about this ephemeron. Four times in a pass it asks, in rounds, about those that still wait
- * for their keys or objects, until a round marks no value. A chain of n ephemerons, the value of each of which reaches the
- * key of the next, may take n rounds. So n ephemerons take at most time proportional to the square of n, or less if the host
- * calls .._key_marked. While a pass is open, the value of an ephemeron's word changes only when that word is cleared.
+ * value. Then it asks nothing more about this ephemeron. Four times in a pass it asks, in rounds, about those that still
+ * wait for their keys or objects, until a round marks no value. A chain of n ephemerons, the value of each of which reaches
+ * the key of the next, may take n rounds. So n ephemerons take at most time proportional to the square of n, or less if the
+ * host calls .._key_marked. While a pass is open, the value of an ephemeron's word changes only when that word is cleared.
  * Refused: NOT_OPEN, NO_PASS; EMPTY. */
 derrimas_finalizers_code derrimas_finalizers_next(derrimas_finalizers *finalizers, uint64_t answers,
                                                   derrimas_question *question, derrimas_finalizers_passed *passed)
@@ -447,9 +449,9 @@ derrimas_finalizers_code derrimas_finalizers_next(derrimas_finalizers *finalizer
 derrimas_finalizers_code derrimas_finalizers_key_marked(derrimas_finalizers *finalizers, uint64_t key) DERRIMAS_NONNULL(1);
 
 /* Ends the open pass before its last question. What it has queued stays queued. A link or an ephemeron whose CLEAR wasn't
- * answered stays one, an object that wasn't queued stays registered, and a cleanup that wasn't queued stays. What the rest of
- * the pass would have retained may be unmarked. So the host reclaims nothing before its next pass has ended, and marks from
- * all roots again before that pass.
+ * answered stays one, an object that wasn't queued stays registered, and a cleanup that wasn't queued stays. What the rest
+ * of the pass would have retained may be unmarked. So the host reclaims nothing before its next pass has ended, and marks
+ * from all roots again before that pass.
  * Refused: NOT_OPEN, NO_PASS. */
 derrimas_finalizers_code derrimas_finalizers_abandon(derrimas_finalizers *finalizers) DERRIMAS_NONNULL(1);
 
@@ -572,13 +574,13 @@ derrimas_finalizers_code derrimas_finalizers_cleanups(const derrimas_finalizers 
 
 /* Why an object isn't finalized, or that it is ready. A path is a list of objects. There are two ways from one object to the
  * next: a word of the object points to it; or it is the value of an ephemeron, and the object is the key, or has the
- * ephemeron's word. Of the ephemeron's key and the object that has its word, the other one is retained too: by the same roots,
- * or by objects that have to be finalized first.
+ * ephemeron's word. The other of the two, the key or the object that has the word, is retained as well: for FOUND by roots;
+ * for RING by roots or by the object's own first steps; for WAITS by roots or by unreachable registered objects.
  *
  * The paths of WAITS and RING begin with a first step, which has to count for the kind of its object: of IGNORE_SELF no word
  * that points to the object itself counts, and of NO_ORDER no word. But towards an object of kind UNREACHABLE all words of
- * objects of other kinds count. The word of a short link whose target is unreachable counts as 0, and a short ephemeron whose
- * key is unreachable counts as removed, since a pass clears these before it decides. */
+ * objects of other kinds count. The word of a short link whose target is unreachable counts as 0, and a short ephemeron
+ * whose key is unreachable counts as removed, since a pass clears these before it decides. */
 typedef enum derrimas_why_reason {
     DERRIMAS_WHY_UNREGISTERED = 0, /* it has no finalizer and no entry, and if it has cleanups, it is unreachable */
     DERRIMAS_WHY_QUEUED = 1,       /* its entry waits or is held */
@@ -586,9 +588,11 @@ typedef enum derrimas_why_reason {
                                     * the object to which the root points, and ends with the object asked about */
     DERRIMAS_WHY_WAITS = 3,        /* it is unreachable and on no ring: the path goes to it, by a first step, from another
                                     * unreachable object with a finalizer, which has to run first, and which may be on a ring */
-    DERRIMAS_WHY_RING = 4,         /* it is unreachable: the path goes from it, by a first step, back to it, so no pass
-                                    * queues it as long as the words and ephemerons on the path stay, with their keys */
-    DERRIMAS_WHY_READY = 5         /* the next pass queues it, if nothing changes before */
+    DERRIMAS_WHY_RING = 4,         /* it is unreachable: the path goes from it, by a first step, back to it. No pass queues
+                                    * it as long as its registration stays, and the words and ephemerons of the path with
+                                    * their keys and objects */
+    DERRIMAS_WHY_READY = 5         /* the next pass queues it, if nothing changes before and the host marks no more than is
+                                    * reachable */
 } derrimas_why_reason;
 
 /* The kind of a root; `number` says which root of this kind it is. */
@@ -613,12 +617,12 @@ typedef struct derrimas_why {
 /* How a host lists its heap, as it is when nothing is cleared. Nothing has to be marked. The functions are called with
  * `data` first; n counts from 0 on until they return false. They must return, and must not make a call that changes the
  * handle. The places for their results are 0 before each call.
- * - child: the n-th word of an object that may point to another. *child is the object to which it points, or 0. *word is
- *   the number by which .._link or .._ephemeron names the word, or 0 if the word is never that of a link or an ephemeron.
- *   The words of ephemerons are listed, too: the library knows which they are, and assumes that the host doesn't mark
- *   through them. In an object that the marker doesn't scan, *child is 0 for each word that is no ephemeron. An object
- *   with n words takes the n numbers from its own on, and at least one, and no two objects share one. No object takes
- *   2^64 - 1.
+ * - child: the n-th word of an object that may point to another. *child is the object to which it points, or 0. *word is the
+ *   number by which .._link or .._ephemeron names the word, or 0 if the word is never that of a link or an ephemeron. The
+ *   words of ephemerons are listed, too: the library knows which they are, and assumes that the host doesn't mark through
+ *   them. In an object that the marker doesn't scan, *child is 0 for each word that is no ephemeron. An object of n words
+ *   takes the n numbers from its own on; an object without words takes one. No two objects share a number, and none has the
+ *   number 2^64 - 1.
  * - root: *root is the object to which the n-th root of the host's points, or 0. The finalizers' own are known.
  * - is_object: whether client data is the number of an object. It may be NULL, which is the same as false. An object that is
  *   client data is reachable by it, as for a host that marks what all three sorts of derrimas_finalizers_roots yield. Client
