@@ -11,7 +11,7 @@ use Rattle.fz_c.specs.declared.machine.snapshot.session.SnapshotSession.{Snapsho
 -- an open handle keeps what it has
 abbrev pub Opens : Option SnapshotSession → Option SnapshotSession → ℕ → Type 0
 Opens (Some old) new code = (code ≡ IS_OPEN) × (new ≡ Some old)
-Opens None (Some s) code = (code ≡ OK) × (s.snapshot.cells ≡ []) × (s.snapshot.links ≡ []) × (s.snapshot.roots ≡ [])
+Opens None (Some s) code = (code ≡ OK) × (s.snapshot.cells ≡ []) × (s.snapshot.links ≡ []) × (s.snapshot.roots ≡ []) × (s.path.items ≡ [])
 Opens None None code = code ≡ NO_MEMORY
 
 abbrev pub code_for : Result Bool NoMemory → ℕ

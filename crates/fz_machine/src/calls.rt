@@ -1,6 +1,6 @@
 //! The calls that change finalizers. While a pass is open only entries are taken and finished.
 
-ghost use Rattle.std.specs.Prelude.{◌≡◌, ◌≤◌, ◌+◌, ◌⊎◌, [], None, length, if◌then◌else◌, IfOk, IfErr, OnOk, OnErr, IsTrue};
+ghost use Rattle.std.specs.Prelude.{◌≡◌, ◌≤◌, ◌+◌, ◌⊎◌, [], None, is_some, length, if◌then◌else◌, IfOk, IfErr, OnOk, OnErr, IsTrue};
 ghost use Rattle.std.specs.FinMap.{get, len, contains_key, empty};
 ghost use Rattle.std.specs.FinSet.{contains};
 ghost use Rattle.fz_model.specs.Steps.{move_answer, old_of};
@@ -51,7 +51,9 @@ impl Machine {
         ensures judged { IsJudgedOrLacks self.old.phase [] result }
         ensures regions { KeepsRegions self.old self.new }
         ensures wanting { IfErr result (λ r. r ≡ Refused.Finalizers NoMemory → HasRooms self.old.finalizers.rooms registrations shorts longs → HasRoomForMore self.old.finalizers.state registrations shorts longs self.old.walk.room → ⊥) }
+        ensures open { IsTrue (is_some self.old.phase) → self.new ≡ self.old }
         ensures same { (self.new.phase ≡ self.old.phase) × (self.new.finalizers.state ≡ self.old.finalizers.state) }
+        ensures kept { IsRoomier self.old.finalizers.rooms self.new.finalizers.rooms × (self.old.walk.room ≤ self.new.walk.room) }
         ensures room { OnOk result (HasRooms self.new.finalizers.rooms registrations shorts longs × HasRoomForMore self.old.finalizers.state registrations shorts longs self.new.walk.room) }
     {
         self.check()?;
@@ -99,6 +101,7 @@ impl Machine {
         // Only an object that isn't registered can run out of memory, and only if no room is reserved.
         ensures fresh { IfErr result (λ r. r ≡ Refused.Finalizers NoMemory → get self.old.finalizers.registrations object ≡ None) }
         ensures wanting { IfErr result (λ r. r ≡ Refused.Finalizers NoMemory → (self.old.finalizers.rooms.registrations ≡ 0) ⊎ (self.old.walk.room ≤ len self.old.finalizers.registrations)) }
+        ensures open { IsTrue (is_some self.old.phase) → self.new ≡ self.old }
         ensures refused { OnErr result ((self.new.phase ≡ self.old.phase) × (self.new.finalizers.state ≡ self.old.finalizers.state)) }
         ensures number { IfOk result (λ answer. answer.0 ≡ self.old.finalizers.next_number) }
         ensures replaced { IfOk result (λ answer. answer.1 ≡ old_of self.old.finalizers.registrations object) }
@@ -121,6 +124,7 @@ impl Machine {
         // Only a new link can run out of memory, and only if no room is reserved.
         ensures fresh { IfErr result (λ r. r ≡ Refused.Finalizers NoMemory → get (links_of self.old.finalizers.state kind) word ≡ None) }
         ensures wanting { IfErr result (λ r. r ≡ Refused.Finalizers NoMemory → (room_of self.old.finalizers.rooms kind ≡ 0) ⊎ (self.old.walk.room ≤ len (links_of self.old.finalizers.state kind))) }
+        ensures open { IsTrue (is_some self.old.phase) → self.new ≡ self.old }
         ensures refused { OnErr result ((self.new.phase ≡ self.old.phase) × (self.new.finalizers.state ≡ self.old.finalizers.state)) }
         ensures answer { IfOk result (λ answer. answer ≡ (if contains_key (links_of self.old.finalizers.state kind) word then LinkAnswer.Duplicate else LinkAnswer.Success)) }
         ensures follows { OnOk result (IsIdle self.new × Follows self.old.finalizers.state (Link kind word target) self.new.finalizers.state) }
@@ -149,6 +153,7 @@ impl Machine {
         ensures regions { KeepsRegions self.old self.new }
         // Only a new ephemeron, or one that changes its kind, can run out of memory.
         ensures fresh { IfErr result (λ r. r ≡ Refused.Finalizers NoMemory → get (of_kind self.old.finalizers.ephemerons kind) word ≡ None) }
+        ensures open { IsTrue (is_some self.old.phase) → self.new ≡ self.old }
         ensures refused { OnErr result ((self.new.phase ≡ self.old.phase) × (self.new.finalizers.state ≡ self.old.finalizers.state)) }
         ensures answer { IfOk result (λ answer. answer ≡ (if has_ephemeron self.old.finalizers.ephemerons word then LinkAnswer.Duplicate else LinkAnswer.Success)) }
         ensures follows { OnOk result (IsIdle self.new × Follows self.old.finalizers.state (Ephemeron kind word key) self.new.finalizers.state) }
@@ -176,6 +181,7 @@ impl Machine {
     pub fn move_ephemeron(&mut self, word: Addr, to: Addr) -> Result<MoveAnswer, Refused>
         ensures judged { IsJudgedBy self.old.phase (move_causes to) result }
         ensures regions { KeepsRegions self.old self.new }
+        ensures open { IsTrue (is_some self.old.phase) → self.new ≡ self.old }
         ensures refused { OnErr result ((self.new.phase ≡ self.old.phase) × (self.new.finalizers.state ≡ self.old.finalizers.state)) }
         ensures answer { IfOk result (λ answer. answer ≡ keyed.move_answer self.old.finalizers.ephemerons word to) }
         ensures follows { OnOk result (IsIdle self.new × Follows self.old.finalizers.state (MoveEphemeron word to) self.new.finalizers.state) }
@@ -195,6 +201,7 @@ impl Machine {
         ensures regions { NotesFor (of_cleanups cleanup.when) self.old self.new }
         // Only a call without reserved room can run out of memory.
         ensures wanting { IfErr result (λ r. r ≡ Refused.Finalizers NoMemory → (self.old.finalizers.rooms.cleanups ≡ 0) ⊎ (self.old.walk.room ≤ len self.old.finalizers.cleanups)) }
+        ensures open { IsTrue (is_some self.old.phase) → self.new ≡ self.old }
         ensures refused { OnErr result ((self.new.phase ≡ self.old.phase) × (self.new.finalizers.state ≡ self.old.finalizers.state)) }
         ensures number { IfOk result (λ number. number ≡ self.old.finalizers.next_number) }
         ensures follows { OnOk result (IsIdle self.new × Follows self.old.finalizers.state (AddCleanup object cleanup) self.new.finalizers.state) }
@@ -248,6 +255,7 @@ impl Machine {
     pub fn move_link(&mut self, kind: LinkKind, word: Addr, to: Addr) -> Result<MoveAnswer, Refused>
         ensures judged { IsJudgedBy self.old.phase (move_causes to) result }
         ensures regions { NotesFor (of_words kind) self.old self.new }
+        ensures open { IsTrue (is_some self.old.phase) → self.new ≡ self.old }
         ensures refused { OnErr result ((self.new.phase ≡ self.old.phase) × (self.new.finalizers.state ≡ self.old.finalizers.state)) }
         ensures answer { IfOk result (λ answer. answer ≡ move_answer (links_of self.old.finalizers.state kind) word to) }
         ensures follows { OnOk result (IsIdle self.new × Follows self.old.finalizers.state (Move kind word to) self.new.finalizers.state) }

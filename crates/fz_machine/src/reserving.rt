@@ -1,12 +1,12 @@
 //! The calls that may allocate: the list of a phase has room for all registrations, for all links of each kind, for all cleanups, and for all ephemerons.
 
-ghost use Rattle.std.specs.Prelude.{◌≡◌, ◌≤◌, ◌<◌, ◌+◌, ◌^◌, ◌⊎◌, None, false, if◌then◌else◌, IfOk, IfErr, OnOk, OnErr};
+ghost use Rattle.std.specs.Prelude.{◌≡◌, ◌≤◌, ◌<◌, ◌+◌, ◌⊎◌, None, false, if◌then◌else◌, IfOk, IfErr, OnOk, OnErr};
 ghost use Rattle.std.specs.FinMap.{get, insert, len, contains_key};
 ghost use Rattle.fz_model.specs.declared.answers.Registration.{Registration};
 ghost use Rattle.fz_model.specs.Steps.{old_of};
 ghost use Rattle.fz_finalizers.specs.Causes.{IsJudgedOrLacks, add_causes, link_causes, register_causes};
 ghost use Rattle.fz_finalizers.specs.Follows.{Follows, Register, Link, Ephemeron, AddCleanup};
-ghost use Rattle.fz_finalizers.specs.States.{HasRooms, KeepsTables, limited, links_of, room_of};
+ghost use Rattle.fz_finalizers.specs.States.{HasRooms, IsRoomier, KeepsTables, limited, links_of, room_of};
 ghost use Rattle.fz_machine.specs.Causes.{RefusesOrLacks};
 ghost use Rattle.fz_pass.specs.Keyed.{has_ephemeron, of_kind};
 ghost use Rattle.fz_machine.specs.Going.{HasRoom, HaveRoom, HasRoomForMore, IsSameBeside, LacksToAdd, LacksToLink, LacksToRegister};
@@ -211,7 +211,7 @@ pub(crate) fn reserve(
     ensures refused { IfErr result (λ r. r ≡ Refused.NoMemory) }
     ensures wanting { OnErr result (HasRooms finalizers.old.rooms registrations shorts longs → HasRoomForMore finalizers.old.state registrations shorts longs walk.old.room → ⊥) }
     ensures same { finalizers.new.state ≡ finalizers.old.state }
-    ensures kept { walk.old.room ≤ walk.new.room }
+    ensures kept { IsRoomier finalizers.old.rooms finalizers.new.rooms × (walk.old.room ≤ walk.new.room) }
     ensures room { HaveRoom false finalizers.new.state walk.new }
     ensures rooms { OnOk result (HasRooms finalizers.new.rooms registrations shorts longs) }
     ensures more { OnOk result (HasRoomForMore finalizers.old.state registrations shorts longs walk.new.room) }

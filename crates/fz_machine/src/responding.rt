@@ -8,8 +8,8 @@ use crate::regions::{PLACES, address_of, bit};
 use fz_model::Addr;
 use fz_pass::{Host, Values};
 
-/// Asks a host that can be called about one object or link, or has it carry out a command, for which the answer is false. The answer is true of the host: what
-/// `runs_make_the_pass` states of answers, the methods of `Host` promise. The words of ephemerons have no values for it.
+/// Asks a host that can be called about one object or link, or has it carry out a command, whose answer nothing reads. The answer to a question is true of the
+/// host: what `runs_make_the_pass` states of answers, the methods of `Host` promise. The words of ephemerons have no values for it.
 pub fn respond<H: Host>(host: &mut H, ask: Ask, subject: Addr) -> bool
     requires { MayAsk ask subject (graph_of (H.objects host.old) (H.marked host.old)) }
     ensures honest { Answers H.is_exact H.place no_value ask subject (graph_of (H.objects host.old) (H.marked host.old)) result (graph_of (H.objects host.new) (H.marked host.new)) }

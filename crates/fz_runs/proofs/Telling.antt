@@ -20,7 +20,7 @@ use Rattle.fz_runs.specs.Jobs.{Asked, IsThreadsFile, OpensAt, Unreadable, IsUnre
 use Rattle.fz_runs.specs.Tallies.{summary_text}
 use Rattle.fz_runs.specs.Plans.{asked_by, PlanIsRead}
 use Rattle.fz_runs.specs.Holds.{SectionsRefused, Settles}
-use Rattle.fz_runs.specs.Threads.{Summarizes, DrivesSections, service_causes, IsDueFor, Malformed, NotOpened, Summary, ExplainsRun, RunStopped, DrivesThreads}
+use Rattle.fz_runs.specs.Threads.{Summarizes, DrivesSections, HasRead, service_causes, IsDueFor, Malformed, NotOpened, Summary, ExplainsRun, RunStopped, DrivesThreads}
 use Rattle.fz_runs.specs.Telling.{lineless, TellsFault, text_for, opening_fault, asked_from, TellsEnd, TellsSummary, IsDueAfter, Refused, Summed, StopsRun, RunsPlan}
 
 -- ---- a refused opening
@@ -95,9 +95,12 @@ no_read_fault asked opening NoMemory number text h = refl
 no_read_fault asked opening Output number text h = refl
 no_read_fault asked opening q number text h = absurd h
 
+plan_is_file : (input left : Feed) (plan : Plan) → PlanIsRead input (Ok plan) left → HasRead input left (asked_by plan)
+plan_is_file input left plan read = record { bytes = read.0; read = read.1; whole = read.2; reads = read.5; file = read.3 }
+
 pub plan_drives : (input left : Feed) (old new : Log) (plan : Plan) (result : Result (Unit {0}) DriveFault) → PlanIsRead input (Ok plan) left → RunsPlan (asked_by plan) plan.size.line old result new → DrivesThreads input old result left new
 plan_drives input left old new plan (Ok x) read runs =
-    record { bytes = read.0; asked = asked_by plan; tally = runs.0; read = read.1; whole = read.2; reads = read.5; file = read.3; summary = runs.1; written = runs.2 }
+    record { asked = asked_by plan; tally = runs.0; file = plan_is_file input left plan read; summary = runs.1; written = runs.2 }
 plan_drives input left old new plan (Err fault) read runs = record {
   bytes = read.0;
   unread = [];
@@ -151,5 +154,5 @@ unreadable_drives input left old new known fault h (inr part) =
 -- sections of a plan that was read were carried out, or memory ran out
 pub plan_carried_out : (origin : Origin) (input left : Feed) (plan : Plan) (result : Result ℕ DriveFault) → PlanIsRead input (Ok plan) left → IfOk result (SectionsRefused origin plan.jobs.items) → IfErr result (λ fault. fault ≡ lineless NoMemory) → Settles origin plan.collections → DrivesSections origin input result left
 plan_carried_out origin input left plan (Ok refused) read sections fault settled =
-    record { bytes = read.0; asked = asked_by plan; read = read.1; whole = read.2; reads = read.5; file = read.3; sections = sections; settled = settled }
-plan_carried_out origin input left plan (Err k) read sections fault settled = inr fault
+    record { asked = asked_by plan; file = plan_is_file input left plan read; sections = sections; settled = settled }
+plan_carried_out origin input left plan (Err k) read sections fault settled = inr (asked_by plan, plan_is_file input left plan read, fault)

@@ -44,15 +44,19 @@ pub record Summarizes (asked : Asked) (tally : Tally) : Type 0 where
   pub settled : Settles origin asked.collections
   pub balanced : tally.enqueued ≡ tally.finished + tally.forfeited + tally.left
 
--- the whole file was read, the summary of its run was written, and no device failed
-pub record Summarized (input left : Feed) (before after : Log) : Type 0 where
+-- the whole input was read, without a failure; it is a threads file that asks for this
+pub record HasRead (input left : Feed) (asked : Asked) : Type 0 where
   pub bytes : List ℕ
-  pub asked : Asked
-  pub tally : Tally
   pub read : Consumes input.remaining left.remaining bytes
   pub whole : IsAtEnd left.remaining
   pub reads : left.failures ≡ input.failures
   pub file : IsThreadsFile bytes asked
+
+-- the summary of the file's run was written, and no device failed
+pub record Summarized (input left : Feed) (before after : Log) : Type 0 where
+  pub asked : Asked
+  pub tally : Tally
+  pub file : HasRead input left asked
   pub summary : Summarizes asked tally
   pub written : Gains before (summary_text tally) after
 
@@ -87,18 +91,14 @@ abbrev pub DrivesThreads : Feed → Log → Result (Unit {0}) DriveFault → Fee
 DrivesThreads input before (Ok x) left after = Summarized input left before after
 DrivesThreads input before (Err fault) left after = RunStopped input left before after fault
 
--- the whole file was read, its sections were carried out with this many refused calls, and then what a run ends with
+-- the file's sections were carried out with this many refused calls, and then what a run ends with
 pub record CarriedOut (origin : Origin) (input left : Feed) (refused : ℕ) : Type 0 where
-  pub bytes : List ℕ
   pub asked : Asked
-  pub read : Consumes input.remaining left.remaining bytes
-  pub whole : IsAtEnd left.remaining
-  pub reads : left.failures ≡ input.failures
-  pub file : IsThreadsFile bytes asked
+  pub file : HasRead input left asked
   pub sections : SectionsRefused origin asked.body refused
   pub settled : Settles origin asked.collections
 
--- the file's sections were carried out over an open service; or the file can't be read, or memory ran out
+-- the file's sections were carried out over an open service; or the file can't be read; or it was read, and then memory ran out
 abbrev pub DrivesSections : Origin → Feed → Result ℕ DriveFault → Feed → Type 0
 DrivesSections origin input (Ok refused) left = CarriedOut origin input left refused
-DrivesSections origin input (Err fault) left = IsUnreadable input left fault ⊎ (fault ≡ record { refusal = NoMemory; line = 0 })
+DrivesSections origin input (Err fault) left = IsUnreadable input left fault ⊎ ((asked : Asked) × HasRead input left asked × (fault ≡ record { refusal = NoMemory; line = 0 }))

@@ -20,7 +20,7 @@ use Rattle.fz_why.specs.declared.snapshot.listing.Listed.{Listed}
 use Rattle.fz_why.specs.declared.snapshot.listing.TheConstants.{HIDDEN}
 use Rattle.fz_why.specs.Paths.{all_pointers}
 use Rattle.fz_why.specs.Hosts.{all_at, all_none, all_within}
-use Rattle.fz_why.specs.Snapshot.{AreCells, Cells, Links, IsNext, IsPut, IsWordOf, Lists, cell_of, hidden_at, holder_of, is_same, is_taken, linked_at, links_to, listed, objects_of, place_of, value_of, with_cell, word_of, words_in}
+use Rattle.fz_why.specs.Snapshot.{AreCells, Cells, Links, IsNext, IsPut, IsWordOf, cell_of, hidden_at, holder_of, is_taken, listed, objects_of, place_of, value_of, with_cell, word_of, words_in}
 
 -- ---- one more word
 
@@ -142,48 +142,6 @@ module _ (es ns : Cells) (links : Links) (word : ℕ) (c : Cell) (inv : AreCells
           let low = slice_get_within made.words (length (words_in objects c.object) + 0) c.value (slice_get-right (words_in objects c.object) (c.value ∷ []) 0) in
           subst (λ (x : Object). 0 < length x.words) (sym o_is) (omega (arith, low)))
           (λ other. inv.some a o (sym (get-insert_other objects c.object made a other) ∙ here)) (cases_eq a c.object)
-
-  -- the links that denote words
-  module _ (new_links : Links) (added : (number : ℕ) → word_of new_links number ≡ links_to c.link word (word_of links) number) where
-    places : (number : ℕ) → place_of ns new_links number ≡ links_to c.link word (place_of es links) number
-    places number = one (is_same c.link number) refl
-      where
-        linked_new : linked_at ns word ≡ c.link
-        linked_new = ap (option_and_then (λ (d : Cell). d.link)) found_new
-
-        linked_other : (w : ℕ) → nat_eq word w ≡ false → linked_at ns w ≡ linked_at es w
-        linked_other w other = ap (option_and_then (λ (d : Cell). d.link)) (put.found w ∙ ap (λ b. if b then Some c else lookup (nat_eq w) es) other)
-
-        linked_none : linked_at es word ≡ None
-        linked_none = ap (option_and_then (λ (d : Cell). d.link)) next.free
-
-        -- where the number isn't that of the new link, the links that denote words are those that did
-        three : is_same c.link number ≡ false → (w : ℕ) (b : Bool) → nat_eq word w ≡ b → (if is_same (linked_at ns w) number then Some w else None) ≡ (if is_same (linked_at es w) number then Some w else None)
-        three other w true same =
-            let is : word ≡ w = eqb-true word w same in
-            ap (λ (o : Option ℕ). if is_same o number then Some w else None) (ap (linked_at ns) (sym is) ∙ linked_new)
-            ∙ ap (λ (b : Bool). if b then Some w else None) other
-            ∙ sym (ap (λ (o : Option ℕ). if is_same o number then Some w else None) (ap (linked_at es) (sym is) ∙ linked_none))
-        three other w false differs = ap (λ (o : Option ℕ). if is_same o number then Some w else None) (linked_other w differs)
-
-        two : is_same c.link number ≡ false → (o : Option ℕ) → option_and_then (λ w. if is_same (linked_at ns w) number then Some w else None) o ≡ option_and_then (λ w. if is_same (linked_at es w) number then Some w else None) o
-        two other None = refl
-        two other (Some w) = three other w (nat_eq word w) refl
-
-        one : (b : Bool) → is_same c.link number ≡ b → place_of ns new_links number ≡ (if b then Some word else place_of es links number)
-        one true same =
-            ap (option_and_then (λ w. if is_same (linked_at ns w) number then Some w else None)) (added number ∙ ap (λ b. if b then Some word else word_of links number) same)
-            ∙ ap (λ (o : Option ℕ). if is_same o number then Some word else None) linked_new
-            ∙ ap (λ (b : Bool). if b then Some word else None) same
-        one false other =
-            ap (option_and_then (λ w. if is_same (linked_at ns w) number then Some w else None)) (added number ∙ ap (λ b. if b then Some word else word_of links number) other)
-            ∙ two other (word_of links number)
-
-    pub lists_more : Lists es ns links new_links word c
-    lists_more = record {
-      objects = ap objects_of put.at_end ∙ objects_more es word c;
-      places = λ number. places number ∙ ap (λ b. if b then Some word else place_of es links number) refl;
-    }
 
 -- ---- none yet
 

@@ -108,10 +108,10 @@ is_taken cells links word link =
 abbrev pub links_to : Option ℕ → ℕ → (ℕ → Option ℕ) → ℕ → Option ℕ
 links_to link word place number = if is_same link number then Some word else place number
 
--- a word was listed
+-- a word was listed: it comes after those listed before, and its link, if it has one, denotes it
 pub record Lists (cells new_cells : Cells) (links new_links : Links) (word : ℕ) (c : Cell) : Type 0 where
-  pub objects : objects_of new_cells ≡ with_cell (objects_of cells) c
-  pub places : (number : ℕ) → place_of new_cells new_links number ≡ links_to c.link word (place_of cells links) number
+  pub at_end : new_cells ≡ cells ++ (word, c) ∷ []
+  pub denotes : (number : ℕ) → word_of new_links number ≡ links_to c.link word (word_of links) number
 
 -- the next word was listed of the object that has the word before it
 abbrev pub ListsNext : Cells → Cells → Links → Links → ℕ → Listed → Type 0

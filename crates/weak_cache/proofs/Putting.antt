@@ -20,7 +20,7 @@ use Rattle.fz_model.proofs.Sound.{first_none}
 use Rattle.fz_world.specs.World.{WorldView}
 use Rattle.fz_world.specs.Does.{Does}
 use Rattle.weak_cache.specs.declared.cache.TheConstants.{LIST, HAND}
-use Rattle.weak_cache.specs.Cached.{CacheView, list_in, cached_in, in_hand, IsCache, IsWhole}
+use Rattle.weak_cache.specs.Cached.{CacheView, list_in, cached_in, in_hand, IsCache, IsWhole, Puts}
 use Rattle.weak_cache.proofs.Keeping.{reached_on}
 
 -- ---- words that are filled in
@@ -149,6 +149,11 @@ module _ (keys : ℕ) (cache : CacheView) (old new : WorldView) (key : ℕ) (fir
 -- a refused link changes nothing
 pub refused_whole : (keys : ℕ) (old new : WorldView) → new ≡ old → IsWhole keys old → IsWhole keys new
 refused_whole keys old new is w = subst (IsWhole keys) (sym is) w
+
+-- both calls
+pub is_put : (old mid new : WorldView) (key : ℕ) (answer : LinkAnswer) (reply : Result (Unit {0}) Refusal) → Does old (Make (Link Short (place_at 0 LIST key) (slot_at 0 HAND))) (Ok answer) mid → Does mid (Make (Store (place_at 0 LIST key) (slot_at 0 HAND))) reply new → OnOk reply (Puts old key new)
+is_put old mid new key answer (Ok done) link store = (mid, answer, link, store)
+is_put old mid new key answer (Err r) link store = tt
 
 pub on_ok : {T E P : Type 0} (r : Result T E) → P → OnOk r P
 on_ok (Ok x) p = p

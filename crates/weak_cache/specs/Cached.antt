@@ -3,15 +3,17 @@
 use Rattle.std.specs.Prelude.{◌≡◌, ℕ, ◌+◌, ◌<◌, ◌⊎◌, true, Option, Some, None, Result, Ok, Err, length, slice_get, unwrap_or, refl}
 use Rattle.std.specs.Coded.{Coded, code_by, coded×, coded_ℕ}
 use Rattle.std.specs.FinMap.{get, empty}
+use Rattle.fz_model.specs.declared.answers.LinkAnswer.{LinkAnswer}
 use Rattle.fz_model.specs.declared.answers.RegAnswer.{RegAnswer}
 use Rattle.fz_model.specs.declared.refusal.Refusal.{Refusal}
 use Rattle.fz_model.specs.declared.kinds.ObjKind.TheVariants.{Atomic}
+use Rattle.fz_model.specs.declared.kinds.LinkKind.TheVariants.{Short}
 use Rattle.fz_model.specs.declared.kinds.RegKind.TheVariants.{Normal}
-use Rattle.fz_model.specs.declared.call.Call.TheVariants.{Alloc, Register}
-use Rattle.fz_model.specs.Places.{slot_at, finalizer_of}
+use Rattle.fz_model.specs.declared.call.Call.TheVariants.{Alloc, Link, Register, Store}
+use Rattle.fz_model.specs.Places.{slot_at, place_at, finalizer_of}
 use Rattle.fz_model.specs.Causes.{Causes, first_cause, IsRefusedFor, alloc_causes}
 use Rattle.fz_model.specs.Events.{Make}
-use Rattle.fz_model.specs.State.{Object, Core, State}
+use Rattle.fz_model.specs.State.{Object, Core, State, opening}
 use Rattle.fz_model.specs.Memory.{slot_word}
 use Rattle.fz_model.specs.Steps.{IsReached}
 use Rattle.fz_world.specs.World.{WorldView, world_code}
@@ -55,6 +57,10 @@ abbrev pub IsOpenedFor : {A : Type 0} → (blocks keys : ℕ) → Result A Refus
 IsOpenedFor blocks keys (Ok cache) = (first_cause (open_causes blocks 1) ≡ None) × (first_cause (list_causes blocks keys) ≡ None)
 IsOpenedFor blocks keys (Err r) = IsRefusedFor (open_causes blocks 1) true r ⊎ ((first_cause (open_causes blocks 1) ≡ None) × (first_cause (list_causes blocks keys) ≡ Some r))
 
+-- in a new world of this many blocks the list is allocated
+abbrev pub Opens : (blocks keys : ℕ) → WorldView → Type 0
+Opens blocks keys new = (first : WorldView) × (made : ℕ × ℕ) × StandsFor first (opening blocks 1) × Does first (Make (Alloc (slot_at 0 LIST) keys Atomic)) (Ok made) new
+
 -- an object is allocated and becomes the current one
 abbrev pub MakesObject : WorldView → Result (ℕ × ℕ) Refusal → WorldView → Type 0
 MakesObject old reply new = Does old (Make (Alloc (slot_at 0 HAND) 1 Atomic)) reply new
@@ -70,6 +76,12 @@ Makes old client_data new = (mid : WorldView) × (made : ℕ × ℕ) × (answer 
 -- one of the two calls failed with this error
 abbrev pub MakesNone : WorldView → ℕ → WorldView → Refusal → Type 0
 MakesNone old client_data new r = MakesObject old (Err r) new ⊎ ((mid : WorldView) × (made : ℕ × ℕ) × MakesObject old (Ok made) mid × RegistersInHand mid client_data (Err r) new)
+
+-- the word of the key is linked to the current object, and then the object's address is stored there
+abbrev pub Puts : WorldView → ℕ → WorldView → Type 0
+Puts old key new =
+    (mid : WorldView) × (answer : LinkAnswer) × Does old (Make (Link Short (place_at 0 LIST key) (slot_at 0 HAND))) (Ok answer) mid
+    × Does mid (Make (Store (place_at 0 LIST key) (slot_at 0 HAND))) (Ok tt) new
 
 -- each word of the list contains the object cached under its key, or zero; there are no long links
 pub record IsCache (keys : ℕ) (c : Core) : Type 0 where

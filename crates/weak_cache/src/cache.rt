@@ -1,6 +1,6 @@
 //! The cache.
 
-ghost use Rattle.std.specs.Prelude.{◌≡◌, ◌≢◌, ◌<◌, ℕ, Some, None, IfOk, IfErr, OnOk, OnErr, IfSome, slice_get};
+ghost use Rattle.std.specs.Prelude.{◌≡◌, ◌≢◌, ◌<◌, ℕ, Some, None, Ok, IfOk, IfErr, OnOk, OnErr, IfSome, slice_get, unwrap_or};
 ghost use Rattle.fz_model.specs.Causes.{IsJudgedBy, IsJudgedOrLacks};
 ghost use Rattle.fz_model.specs.CallLaws.{Stands};
 ghost use Rattle.fz_model.specs.declared.call.Call.TheVariants.{Load, Set, Link, Collect};
@@ -10,7 +10,7 @@ ghost use Rattle.fz_model.specs.Events.{Make, Finish, causes};
 ghost use Rattle.fz_model.specs.Reachability.{IsReachable};
 ghost use Rattle.fz_world.specs.Does.{Does};
 ghost use Rattle.weak_cache.specs.declared.cache.TheConstants.{LIST, HAND};
-ghost use Rattle.weak_cache.specs.Cached.{cached, in_hand, IsOpenedFor, KeepsCached, Makes, MakesNone};
+ghost use Rattle.weak_cache.specs.Cached.{cached, in_hand, IsOpenedFor, KeepsCached, Makes, MakesNone, Opens, Puts};
 
 use fz_model::LinkKind::Short;
 use fz_model::ObjKind::Atomic;
@@ -55,6 +55,7 @@ impl Cache {
     /// Errors, in order: `BadCount` for the blocks, `NoMemory`, `BadSize` if the number of keys isn't from 1 to 1,024, and `NoSpace` for their list.
     pub fn open(alloc: Global, blocks: u64, keys: u64) -> Result<Cache, Refusal>
         ensures judged { IsOpenedFor blocks keys result }
+        ensures opened { IfOk result (λ cache. Opens blocks keys cache.world) }
         ensures keys { IfOk result (λ cache. cache.keys ≡ keys) }
         ensures empty { IfOk result (λ cache. (key : ℕ) → cached cache key ≡ None) }
     {
@@ -81,6 +82,7 @@ impl Cache {
     pub fn put(&mut self, key: u64) -> Result<(), Refusal>
         ensures judged { IsJudgedOrLacks (causes self.old.world.core (Make (Link Short (place_at 0 LIST key) (slot_at 0 HAND)))) result }
         ensures refused { OnErr result (self.new ≡ self.old) }
+        ensures put { OnOk result (Puts self.old.world key self.new.world) }
         ensures cached { OnOk result (cached self.new key ≡ Some (in_hand self.old)) }
         ensures others { (other : ℕ) → other ≢ key → cached self.new other ≡ cached self.old other }
         ensures keys { self.new.keys ≡ self.old.keys }
@@ -93,6 +95,7 @@ impl Cache {
     pub fn get(&mut self, key: u64) -> Result<Option<Addr>, Refusal>
         ensures judged { IsJudgedBy (causes self.old.world.core (Make (Load (place_at 0 LIST key) (slot_at 0 HAND)))) result }
         ensures refused { OnErr result (self.new ≡ self.old) }
+        ensures step { IfOk result (λ found. Does self.old.world (Make (Load (place_at 0 LIST key) (slot_at 0 HAND))) (Ok (unwrap_or found 0)) self.new.world) }
         ensures found { key < self.old.keys → IfOk result (λ found. found ≡ cached self.old key) }
         ensures stands { key < self.old.keys → IfOk result (λ found. IfSome found (Stands self.old.world.objects)) }
         ensures same { KeepsCached self.old.world self.new.world }

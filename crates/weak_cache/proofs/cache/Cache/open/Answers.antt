@@ -10,3 +10,6 @@ returns-clause-empty c = (opened _ _ _ _ _ _ c.in_ok-world.ensures.opened c.in_o
 
 pub returns-in_err-world-clause-judged : goal.returns-in_err-world-clause-judged
 returns-in_err-world-clause-judged c = not_opened c.args.blocks c.args.keys c.from_residual.result _ c.from_residual.ensures.1 c.in_err-world.ensures.judged
+
+pub returns-clause-opened : goal.returns-clause-opened
+returns-clause-opened c = (c.in_ok-world.world, c.in_ok-alloc.field-0, c.in_ok-world.ensures.opened, c.in_ok-alloc.ensures.step)

@@ -1,17 +1,22 @@
-use Rattle.std.proofs.Common.{◌≡◌, None, subst}
+use Rattle.std.proofs.Common.{◌≡◌, None, OnOk, subst}
 use Rattle.fz_model.specs.declared.kinds.LinkKind.TheVariants.{Short}
 use Rattle.fz_model.specs.Causes.{first_cause}
 use Rattle.fz_model.specs.declared.call.Call.TheVariants.{Link, Store}
 use Rattle.fz_model.specs.Places.{slot_at, place_at}
 use Rattle.fz_model.specs.Events.{Make, causes}
 use Rattle.weak_cache.specs.declared.cache.TheConstants.{LIST, HAND}
-use Rattle.weak_cache.specs.Cached.{CacheView}
+use Rattle.weak_cache.specs.Cached.{CacheView, Puts}
 use Rattle.weak_cache.proofs.Refusing.{judged_as_linked, never_refused}
-use Rattle.weak_cache.proofs.Putting.{puts, store_stands, now_cached, others_same, on_ok}
+use Rattle.weak_cache.proofs.Putting.{puts, store_stands, now_cached, others_same, on_ok, is_put}
 use Rattle.weak_cache.proofs.cache.Cache.put.Goals as goal
 
 pub invariant_of-self-2 : goal.invariant_of-self-2
 invariant_of-self-2 c = (puts _ _ _ _ _ _ _ c.in_ok-link.ensures.step c.store.ensures.step c.self.invariant).whole
+
+pub returns-clause-put : goal.returns-clause-put
+returns-clause-put c =
+    subst (λ (v : CacheView). OnOk c.store.result (Puts v.world c.args.key c.store.new.self)) c.self.view_is
+    (is_put _ _ _ _ _ c.store.result c.in_ok-link.ensures.step c.store.ensures.step)
 
 pub returns-clause-cached : goal.returns-clause-cached
 returns-clause-cached c =
