@@ -1,6 +1,6 @@
 -- What the calls of a line do through a handle.
 -- code: fz_c/src/line/lines.rt, line_session.rt
-use Rattle.std.specs.Prelude.{◌≡◌, ◌≢◌, ◌≤◌, ◌⊎◌, ℕ, Option, true, Some, None, List, [], ◌∷◌, ◌++◌, length}
+use Rattle.std.specs.Prelude.{◌≡◌, ◌≢◌, ◌≤◌, ◌<◌, ◌⊎◌, ℕ, Option, true, Some, None, List, [], ◌∷◌, ◌++◌, length}
 use Rattle.fz_model.specs.declared.answers.Entry.{Entry}
 use Rattle.fz_model.specs.declared.limits.TheConstants.{MAX_WORKERS}
 use Rattle.fz_model.specs.declared.refusal.Refusal.{Refusal}
@@ -35,11 +35,12 @@ Opens None n new code = Opened n new code
 abbrev pub with_sent : LineState → Entry → LineState
 with_sent l entry = record l { owner = record l.owner { sent = l.owner.sent ++ entry ∷ [] } }
 
--- the entry doesn't have the next number; or 2^62 entries were sent; or memory ran out, but not within the room that the line has from its opening
+-- the first of these: 2^62 entries were sent; the entry doesn't have the next number; memory ran out, but not within the room that the line has from its opening
 abbrev pub IsWhyNot : LineState → Entry → ℕ → Type 0
 IsWhyNot l entry code =
-    ((code ≡ NOT_NEXT) × (entry.seq ≢ length l.owner.sent))
-    ⊎ (((code ≡ code_of refusals.Exhausted) × (sent_limit ≤ length l.owner.sent)) ⊎ ((code ≡ code_of refusals.NoMemory) × (l.owner.room ≤ length l.owner.sent)))
+    ((code ≡ code_of refusals.Exhausted) × (sent_limit ≤ length l.owner.sent))
+    ⊎ (((code ≡ NOT_NEXT) × (length l.owner.sent < sent_limit) × (entry.seq ≢ length l.owner.sent))
+    ⊎ ((code ≡ code_of refusals.NoMemory) × (length l.owner.sent < sent_limit) × (entry.seq ≡ length l.owner.sent) × (l.owner.room ≤ length l.owner.sent)))
 
 -- the entry with the next number is sent, or nothing changes
 abbrev pub Publishes : LineState → Entry → LineState → ℕ → Type 0

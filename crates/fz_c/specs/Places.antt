@@ -1,6 +1,6 @@
 -- How results are stored in C's variables, and which values of the model C's structs represent.
 -- code: fz_c/src/world/objects.rt, finalizers.rt, links.rt, entries.rt, collections.rt
-use Rattle.std.specs.Prelude.{◌≡◌, ℕ, Bool, true, false}
+use Rattle.std.specs.Prelude.{◌≡◌, ℕ, Bool, true, false, None}
 use Rattle.fz_model.specs.declared.kinds.ObjKind.{ObjKind}
 use Rattle.fz_model.specs.declared.kinds.ObjKind.TheVariants as objects
 use Rattle.fz_model.specs.declared.kinds.RegKind.{RegKind}
@@ -57,7 +57,7 @@ TellsMoved code moving.Duplicate = code ≡ DUPLICATE
 TellsMoved code moving.NotFound = code ≡ NOT_FOUND
 
 abbrev pub TellsRegistered : Registered → RegAnswer → Type 0
-TellsRegistered registered registering.Outside = registered.made ≡ false
+TellsRegistered registered registering.Outside = (registered.made ≡ false) × (registered.number ≡ 0) × TellsOld registered.replaced None
 TellsRegistered registered (registering.Number number old) = (registered.made ≡ true) × (registered.number ≡ number) × TellsOld registered.replaced old
 
 abbrev pub TellsEntry : Entry → answers.Entry → Type 0

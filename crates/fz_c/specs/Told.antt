@@ -3,10 +3,12 @@
 use Rattle.std.specs.Prelude.{◌≡◌, ℕ, Option, Some, None, Result, Ok, Err, OnErr}
 use Rattle.fz_model.specs.declared.refusal.Refusal.{Refusal}
 use Rattle.fz_model.specs.Refusals.{code_of}
-use Rattle.fz_model.specs.Events.{Event, Answer}
+use Rattle.fz_model.specs.Causes.{IsJudgedBy}
+use Rattle.fz_model.specs.Events.{Event, Make, Answer, causes}
 use Rattle.fz_model.specs.declared.places.Slot.{Slot}
 use Rattle.fz_world.specs.Addresses.{ByAddress, ByAddresses}
 use Rattle.fz_world.specs.Does.{Does}
+use Rattle.fz_world.specs.Replies.{IsCaused}
 use Rattle.fz_world.specs.World.{WorldView}
 use Rattle.fz_c.specs.declared.world.codes.TheConstants.{OK, NO_WORLD, EMPTY}
 use Rattle.fz_c.specs.Owned.{Held}
@@ -21,10 +23,16 @@ abbrev pub IsFound : {X : Type 0} → Option X → ℕ → (X → Type 0) → Ty
 IsFound (Some x) code told kept = (code ≡ OK) × told x
 IsFound None code told kept = (code ≡ EMPTY) × kept
 
+-- refused for the first cause that applies: of the calls in the model only an object's first registration and a new link can run out of memory
+abbrev pub IsCausedBy : WorldView → (e : Event) → Result (Answer e) Refusal → Type 0
+IsCausedBy old (Make c) reply = IsCaused old c reply
+IsCausedBy old e reply = IsJudgedBy (causes old.core e) reply
+
 -- the session's world makes the step, and C gets its reply; a refused call changes nothing, not even marks or dirty pages
 pub record Called (old : Held) (e : Event) (new : Held) (code : ℕ) (told : Answer e → Type 0) (kept : Type 0) : Type 0 where
   pub reply : Result (Answer e) Refusal
   pub step : Does old.world e reply new.world
+  pub caused : IsCausedBy old.world e reply
   pub refused : OnErr reply (new.world ≡ old.world)
   pub taken : new.taken ≡ old.taken
   pub is_told : IsTold reply code told kept

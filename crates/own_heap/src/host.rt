@@ -1,6 +1,6 @@
 //! The heap as the host of a pass.
 
-ghost use Rattle.std.specs.Prelude.{◌≡◌, refl};
+ghost use Rattle.std.specs.Prelude.{◌≡◌, length, refl};
 ghost use Rattle.std.proofs.Common.{◌∙◌};
 ghost use Rattle.own_heap.specs.Outside.{place_of_link, links_apart};
 ghost use Rattle.own_heap.specs.Records.{objects_of, value_of, AreFieldsKept};
@@ -21,7 +21,7 @@ impl Host for Heap {
 
     ghost place = { place_of_link };
 
-    ghost is_same = { λ g h. (h.roots ≡ g.roots) × (h.cursor ≡ g.cursor) × AreFieldsKept g.records.slots.items h.records.slots.items };
+    ghost is_same = { λ g h. (h.roots ≡ g.roots) × (h.cursor ≡ g.cursor) × AreFieldsKept g.records.slots.items h.records.slots.items × (length h.records.slots.items ≡ length g.records.slots.items) };
 
     fn is_marked(&self, object: Addr) -> bool {
         self.marks.contains(object)
@@ -62,9 +62,9 @@ impl Host for Heap {
         }
     }
 
-    ghost reflexive = { λ h. (refl, refl, kept_itself h.records.slots.items) };
+    ghost reflexive = { λ h. (refl, refl, kept_itself h.records.slots.items, refl) };
 
-    ghost transitive = { λ f g h p q. (q.0 ∙ p.0, q.1 ∙ p.1, kept_on f.records.slots.items g.records.slots.items h.records.slots.items p.2 q.2) };
+    ghost transitive = { λ f g h p q. (q.0 ∙ p.0, q.1 ∙ p.1, kept_on f.records.slots.items g.records.slots.items h.records.slots.items p.2 q.2, q.3 ∙ p.3) };
 
     ghost apart = { links_apart };
 }

@@ -79,7 +79,7 @@ impl Runtime {
 
     /// Removes the root that was added last.
     pub fn pop_root(&mut self) -> Option<RecordId>
-        ensures roots { MatchOption result (self.old.heap.roots.items ≡ []) (λ id. self.old.heap.roots.items ≡ self.new.heap.roots.items ++ id ∷ []) }
+        ensures roots { MatchOption result ((self.old.heap.roots.items ≡ []) × (self.new.heap.roots.items ≡ [])) (λ id. self.old.heap.roots.items ≡ self.new.heap.roots.items ++ id ∷ []) }
         ensures rest { (self.new.heap.records ≡ self.old.heap.records) × (self.new.finalizers ≡ self.old.finalizers) }
     {
         self.heap.roots.pop()
@@ -315,6 +315,7 @@ impl Runtime {
         ensures cursor { self.new.heap.cursor ≡ 0 }
         // Records that remain are unchanged but for references that were cleared: `collected` says which. Numbers stay.
         ensures fields { AreFieldsLeft self.old.heap.records.slots.items self.new.heap.records.slots.items }
+        ensures size { length self.new.heap.records.slots.items ≡ length self.old.heap.records.slots.items }
         ensures held { HeldStand (objects_of self.new.heap.records.slots.items) self.new.finalizers.state }
         ensures rest { self.new.heap.roots ≡ self.old.heap.roots }
     {

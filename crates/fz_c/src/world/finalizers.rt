@@ -87,7 +87,7 @@ pub extern "C" fn fz_register_ignore_self(
     register(alloc, world, slot, proc, cd, rank, registered, kind)
 }
 
-#[tactic(auto, using(crate::proofs::Told::not_called, crate::proofs::Told::called, crate::proofs::Told::none_taken))]
+#[tactic(auto, using(crate::proofs::Told::not_called, crate::proofs::Told::called, crate::proofs::Told::registers, crate::proofs::Told::none_taken))]
 fn register(
     alloc: Global,
     world: &mut WorldHandle,

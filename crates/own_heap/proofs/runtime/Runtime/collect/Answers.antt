@@ -1,4 +1,4 @@
-use Rattle.std.proofs.Common.{◌∙◌, ℕ, length, sym, subst, inl, IsTrue}
+use Rattle.std.proofs.Common.{◌∙◌, ℕ, length, ap, sym, subst, inl, IsTrue}
 use Rattle.fz_model.specs.State.{Map, Object}
 use Rattle.fz_pass.specs.Marks.{IsClosed}
 use Rattle.std.specs.FinSet.{contains}
@@ -103,3 +103,9 @@ returns-clause-fields c =
     let last = c.mark_kept-3.ensures.rest.0 ∙ third in
     let host = c.pass_with_ephemerons-passed.new.host in
     fields_left old.heap.records.slots.items host.records.slots.items _ (is_marked host.marks) (subst (λ (r : Records). AreFieldsKept r.slots.items host.records.slots.items) last c.pass_with_ephemerons-passed.ensures.same.2) c.sweep.ensures.records
+
+pub returns-clause-size : goal.returns-clause-size
+returns-clause-size c =
+    let second = c.mark_kept.ensures.rest.0 ∙ c.mark_roots.ensures.rest.0 in
+    let last = c.mark_kept-3.ensures.rest.0 ∙ (c.mark_kept-2.ensures.rest.0 ∙ second) in
+    c.sweep.ensures.size ∙ c.pass_with_ephemerons-passed.ensures.same.3 ∙ ap (λ (r : Records). length r.slots.items) last
