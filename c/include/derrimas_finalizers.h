@@ -63,10 +63,11 @@
  *
  * A call uses at most 16 KB of the stack, besides what the host's functions use.
  *
- * Unless a comment says otherwise a call takes constant expected time, since the tables are hash maps without a seed:
- * .._register, .._link, .._ephemeron and .._add_cleanup amortized over the growth of tables, .._move_link over as many moves
- * as there are links of its kind, .._move_ephemeron over as many as there are ephemerons. A single call that enlarges a
- * table takes time proportional to the table. .._reserve enlarges the tables of registrations and links beforehand. */
+ * Unless a comment says otherwise a call takes constant expected time, since the tables are hash maps. Their hash has no
+ * seed, so numbers that are chosen to collide make calls slower. This time is amortized: for .._register, .._link,
+ * .._ephemeron and .._add_cleanup over the growth of tables, for .._move_link over as many moves as there are links of its
+ * kind, and for .._move_ephemeron over as many as there are ephemerons. A single call that enlarges a table takes time
+ * proportional to the table. .._reserve enlarges the tables of registrations and links beforehand. */
 #ifndef DERRIMAS_FINALIZERS_H
 #define DERRIMAS_FINALIZERS_H
 
@@ -109,8 +110,8 @@ typedef enum derrimas_finalizers_kind {
     DERRIMAS_FINALIZERS_NORMAL = 0,      /* ready if no unreachable registered object reaches it, not even itself; one of
                                           * kind NO_ORDER doesn't delay it */
     DERRIMAS_FINALIZERS_IGNORE_SELF = 1, /* the same, but words of the object that point to itself don't delay it */
-    DERRIMAS_FINALIZERS_NO_ORDER = 2,    /* as NORMAL, but its own references delay no object of another kind than
-                                          * UNREACHABLE, and not itself */
+    DERRIMAS_FINALIZERS_NO_ORDER = 2,    /* as NORMAL, but it delays no object, not even itself, except objects of kind
+                                          * UNREACHABLE */
     DERRIMAS_FINALIZERS_UNREACHABLE = 3  /* as NORMAL, but objects of kind NO_ORDER that reach it delay it too */
 } derrimas_finalizers_kind;
 
@@ -448,10 +449,11 @@ derrimas_finalizers_code derrimas_finalizers_next(derrimas_finalizers *finalizer
  * Refused: NOT_OPEN. */
 derrimas_finalizers_code derrimas_finalizers_key_marked(derrimas_finalizers *finalizers, uint64_t key) DERRIMAS_NONNULL(1);
 
-/* Ends the open pass before its last question. What it has queued stays queued. A link or an ephemeron whose CLEAR wasn't
- * answered stays one, an object that wasn't queued stays registered, and a cleanup that wasn't queued stays. What the rest
- * of the pass would have retained may be unmarked. So the host reclaims nothing before its next pass has ended, and marks
- * from all roots again before that pass.
+/* Ends the open pass before its last question. What it has queued stays queued. A link or an ephemeron stays unless .._next
+ * was called after its CLEAR, or, at the end of the pass, after the answer that the object with its word isn't marked. An
+ * object that wasn't queued stays registered, and a cleanup that wasn't queued stays. What the rest of the pass would have
+ * retained may be unmarked. So the host reclaims nothing before its next pass has ended, and marks from all roots again
+ * before that pass.
  * Refused: NOT_OPEN, NO_PASS. */
 derrimas_finalizers_code derrimas_finalizers_abandon(derrimas_finalizers *finalizers) DERRIMAS_NONNULL(1);
 
@@ -621,8 +623,8 @@ typedef struct derrimas_why {
  *   number by which .._link or .._ephemeron names the word, or 0 if the word is never that of a link or an ephemeron. The
  *   words of ephemerons are listed, too: the library knows which they are, and assumes that the host doesn't mark through
  *   them. In an object that the marker doesn't scan, *child is 0 for each word that is no ephemeron. An object of n words
- *   takes the n numbers from its own on; an object without words takes one. No two objects share a number, and none has the
- *   number 2^64 - 1.
+ *   takes the n numbers from its own on; an object without words takes one. No two objects share a number, and no object
+ *   takes the number 2^64 - 1.
  * - root: *root is the object to which the n-th root of the host's points, or 0. The finalizers' own are known.
  * - is_object: whether client data is the number of an object. It may be NULL, which is the same as false. An object that is
  *   client data is reachable by it, as for a host that marks what all three sorts of derrimas_finalizers_roots yield. Client
